@@ -1,4 +1,6 @@
 -- What is due of a calm replay is the verdict on its run.
+use Rattle.zy_schedule.specs.Reading.{schedule_of}
+use Rattle.zy_group.specs.declared.machine.MachineKind.TheVariants as kinds
 use Rattle.std.proofs.Common.{◌≡◌, ℕ, inl, inr, List, Option, Some, None, Ok, sym, ap, ◌∙◌, subst}
 use Rattle.zy_base.specs.Machine.{Rules}
 use Rattle.zy_calm.specs.Asks.{CalmAsk}
@@ -21,18 +23,18 @@ use Rattle.zy_world_law.specs.declared.note.Note.{Note}
 
 -- its run is told calmly
 told_calmly : {S : Type 0} (R : Rules S) (setup : Setup) (path : Path) (muted : List ℕ) (asks : List CalmAsk) → RunsCalmly R setup path muted asks
-    → IsCalmVerdict R setup path muted asks (run_verdict R (calm_run R setup path muted asks))
+    → IsCalmVerdict R setup path muted asks (run_verdict kinds.Space R (calm_run R setup path muted asks))
 told_calmly {S} R setup path muted asks (inl served) =
     let r : Run S = calm_run R setup path muted asks in
-    inl (served.world, served.end, ap (λ (notes : List Note). told_verdict R notes r.end) served.notes ∙ ap (told_verdict R (calm_notes R setup path muted asks)) served.end)
-told_calmly {S} R setup path muted asks (inr clash) = let r : Run S = calm_run R setup path muted asks in inr (r.notes, ap (told_verdict R r.notes) clash.1)
+    inl (served.world, served.end, ap (λ (notes : List Note). told_verdict kinds.Space R notes r.end) served.notes ∙ ap (told_verdict kinds.Space R (calm_notes R setup path muted asks)) served.end)
+told_calmly {S} R setup path muted asks (inr clash) = let r : Run S = calm_run R setup path muted asks in inr (r.notes, ap (told_verdict kinds.Space R r.notes) clash.1)
 
 -- what is due is the verdict on that run
 due_of_run : (told : ReplayGroup) (path : Path) (muted : List ℕ) (asks : List CalmAsk) (group schedule : List ℕ) → IsCalmReplay told path muted asks group schedule
-    → replay_verdict group schedule ≡ run_verdict space_rules (calm_run space_rules (setup_of told) path muted asks)
+    → replay_verdict group schedule ≡ run_verdict kinds.Space space_rules (calm_run space_rules (setup_of told) path muted asks)
 due_of_run told path muted asks group schedule is =
-    short_group group schedule is.group_fits ∙ ap (λ g. group_verdict g schedule) is.group_told ∙ short_schedule (setup_of told) schedule is.schedule_fits
-    ∙ ap (schedule_verdict (setup_of told)) is.schedule_spelled
+    short_group group schedule is.group_fits ∙ ap (λ g. group_verdict g schedule) is.group_told ∙ short_schedule told.machine (setup_of told) schedule is.schedule_fits
+    ∙ ap (λ k. schedule_verdict k (setup_of told) (schedule_of schedule)) is.machine ∙ ap (schedule_verdict kinds.Space (setup_of told)) is.schedule_spelled
 
 pub calm_served : ((setup : Setup) (path : Path) (muted : List ℕ) (asks : List CalmAsk) → IsCalm setup path muted asks → RunsCalmly space_rules setup path muted asks)
     → (group schedule : List ℕ) → IsServedReplay group schedule

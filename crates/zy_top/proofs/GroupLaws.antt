@@ -1,4 +1,5 @@
 -- What is known of a group that was read: its world can begin.
+use Rattle.zy_top.specs.declared.group.Scene.{Scene}
 use Rattle.std.proofs.Common.{◌≡◌, ℕ, ℤ, zero, suc, pos, negsuc, ◌+◌, ◌-◌, ◌*◌, ◌<◌, ◌≤◌, Bool, true, false, ◌||◌, cond, inl, inr, nat_eq, List, [], ◌∷◌, ◌++◌, length, Result, Ok, Err, Option, Some, None, option_and_then, refl, sym, ap, ◌∙◌, subst, arith}
 use Rattle.std.specs.Prelude.{nat_le, codes}
 use Rattle.std.specs.Result.{result_unwrap_or}
@@ -9,7 +10,7 @@ use Rattle.hex.proofs.HexLemmas.{decode_of-ok, decode_sized-ok, decode_sized-twi
 use Rattle.std.proofs.lemmas.Bool.{cases_Bool, and_parts, leb-true, true≢false}
 use Rattle.std.proofs.lemmas.Option.{cond_some, same_Some}
 use Rattle.toml.specs.Data.{Data, Members, Items, no_items, item, as_integer, as_array, get_member}
-use Rattle.zy_group.specs.Fields.{within, number_of, number_at, different_from, at_most, listed, numbers_at, decoded, text_at, bytes_at, height_at, ots_at, profile_at, counts_at}
+use Rattle.zy_group.specs.Fields.{within, number_of, number_at, different_from, at_most, listed, numbers_at, decoded, text_at, bytes_at, height_at, ots_at, machine_at, profile_at, counts_at}
 use Rattle.zy_group.specs.Reading.{field, IsRead}
 use Rattle.zy_group.specs.Replay.{replay_group}
 use Rattle.zy_group.specs.declared.fault.GroupFault.{GroupFault}
@@ -141,7 +142,8 @@ table_group table g is =
     let seed = field_some 6 (bytes_at 32 (codes "seed") table) _ g lying.1.1 in
     let height = field_some 7 (height_at table) _ g seed.1.1 in
     let ots = field_some 8 (ots_at table) _ g height.1.1 in
-    subst IsGroup (same_group _ g ots.1.1) (record {
+    let machine = field_some 21 (machine_at table) _ g ots.1.1 in
+    subst IsGroup (same_group _ g machine.1.1) (record {
       replicas = counts_at_few profile.0 table counts.0 counts.1.0;
       k = number_at_range 4 32 (codes "k") table k.0 k.1.0;
       clients = number_at_range 1 64 (codes "clients") table clients.0 clients.1.0;
@@ -178,8 +180,8 @@ pub fault_reads : (read : Result ReplayGroup ℕ) (fault : GroupFault) → IsRea
 fault_reads read (faults.Field number) is = is
 fault_reads read faults.Want is = tt
 
-pub setup_read : (text : List ℕ) (g : ReplayGroup) (setup : Setup) → group_of text ≡ Ok g → setup ≡ setup_of g → IsSetupRead (group_of text) (Ok setup)
-setup_read text g setup read is = (subst IsStart (sym is) (group_starts text g read), (g, read, is))
+pub setup_read : (text : List ℕ) (g : ReplayGroup) (scene : Scene) → group_of text ≡ Ok g → scene.machine ≡ g.machine → scene.setup ≡ setup_of g → IsSetupRead (group_of text) (Ok scene)
+setup_read text g scene read of is = (subst IsStart (sym is) (group_starts text g read), (g, read, of, is))
 
 -- ---- what the laws of runs ask of a start
 

@@ -1,4 +1,6 @@
 -- Files that are read and judged one after the other.
+use Rattle.zy_group.specs.declared.machine.MachineKind.{MachineKind}
+use Rattle.zy_top.specs.declared.group.Scene.{Scene}
 use Rattle.std.proofs.Common.{◌≡◌, ℕ, ◌<◌, ◌≤◌, List, length, Option, Some, None, IfSome, option_map, Result, Ok, Err, Vec, refl, sym, ap, ◌∙◌}
 use Rattle.std.specs.Prelude.{IfOk, IsTrue}
 use Rattle.std.specs.declared.alloc.Global.{Global}
@@ -12,8 +14,8 @@ use Rattle.zy_schedule.specs.declared.line.Line.{Line}
 use Rattle.zy_world_setup.specs.Starting.{IsStart}
 use Rattle.zy_world_law.specs.Setup.{Setup}
 use Rattle.zy_top_words.specs.Calls.{IsFileRead, IsReading, exit_of_fault, is_reading}
-use Rattle.zy_top.specs.Group.{group_of}
-use Rattle.zy_top.specs.Replaying.{IsGroupJudged, IsScheduleJudged, IsSetupOf, IsSetupRead, text_verdict}
+use Rattle.zy_top.specs.Group.{group_of, setup_of}
+use Rattle.zy_top.specs.Replaying.{IsGroupJudged, IsScheduleJudged, IsSceneOf, IsSetupRead, text_verdict}
 use Rattle.zy_top_words.specs.Ends.{IsAnswer, Verdict, limit}
 use Rattle.zy_top.specs.Verdict.{group_verdict, replay_verdict, schedule_verdict}
 use Rattle.zy_top_words.specs.declared.exit.Exit.{Exit}
@@ -49,9 +51,10 @@ pub group_unread : {A : Type 0} (told : Option A) (content : A → List ℕ) (ex
 group_unread None content exit read = tt
 group_unread (Some held) content exit read = unread_group (content held) exit read
 
-judged_group : (group : List ℕ) (r : Result Setup Exit) → length group ≤ limit → IsSetupRead (group_of group) r → IsGroupJudged group r
-judged_group group (Ok setup) short read = λ schedule.
-    short_group group schedule short ∙ ap (λ g. group_verdict g schedule) read.1.1 ∙ ap (λ s. text_verdict s schedule) (sym read.1.2)
+judged_group : (group : List ℕ) (r : Result Scene Exit) → length group ≤ limit → IsSetupRead (group_of group) r → IsGroupJudged group r
+judged_group group (Ok scene) short read = λ schedule.
+    short_group group schedule short ∙ ap (λ g. group_verdict g schedule) read.1.1 ∙ ap (λ k. text_verdict k (setup_of read.1.0) schedule) (sym read.1.2)
+    ∙ ap (λ s. text_verdict scene.machine s schedule) (sym read.1.3)
 judged_group group (Err (exits.Group field)) short read = λ schedule. short_group group schedule short ∙ ap (λ g. group_verdict g schedule) read
 judged_group group (Err exits.Want) short read = tt
 judged_group group (Err exits.Done) short read = absurd read
@@ -68,28 +71,28 @@ judged_group group (Err (exits.Text line rule)) short read = absurd read
 judged_group group (Err (exits.Premise event what)) short read = absurd read
 judged_group group (Err exits.TooLong) short read = absurd read
 
-pub group_read : {A : Type 0} (told : Option A) (content : A → List ℕ) (text : Vec ℕ Global) (r : Result Setup Exit) → IsFileRead (option_map content told) (Ok text)
+pub group_read : {A : Type 0} (told : Option A) (content : A → List ℕ) (text : Vec ℕ Global) (r : Result Scene Exit) → IsFileRead (option_map content told) (Ok text)
     → IsSetupRead (group_of text.items) r → IfSome told (λ held. IsGroupJudged (content held) r)
 group_read None content text r file read = tt
 group_read (Some held) content text r file read = rw (← file.0) (judged_group text.items r file.1 read)
 
 -- the group that a file spells tells of the setup
-pub setup_spelled : {A : Type 0} (told : Option A) (content : A → List ℕ) (text : Vec ℕ Global) (r : Result Setup Exit) → IsFileRead (option_map content told) (Ok text)
-    → IsSetupRead (group_of text.items) r → IfOk r (λ setup. IfSome told (λ held. IsSetupOf (group_of (content held)) setup))
+pub setup_spelled : {A : Type 0} (told : Option A) (content : A → List ℕ) (text : Vec ℕ Global) (r : Result Scene Exit) → IsFileRead (option_map content told) (Ok text)
+    → IsSetupRead (group_of text.items) r → IfOk r (λ scene. IfSome told (λ held. IsSceneOf (group_of (content held)) scene))
 setup_spelled told content text (Err exit) file read = tt
 setup_spelled None content text (Ok setup) file read = tt
 setup_spelled (Some held) content text (Ok setup) file read = rw (← file.0) read.1
 
 -- ---- the schedule
 
-long_schedule : (setup : Setup) (text : List ℕ) → limit < length text → text_verdict setup text ≡ Verdict.Refused exits.TooLong
-long_schedule setup text long = rw (lt-ltb limit (length text) long) refl
+long_schedule : (kind : MachineKind) (setup : Setup) (text : List ℕ) → limit < length text → text_verdict kind setup text ≡ Verdict.Refused exits.TooLong
+long_schedule kind setup text long = rw (lt-ltb limit (length text) long) refl
 
-pub short_schedule : (setup : Setup) (text : List ℕ) → length text ≤ limit → text_verdict setup text ≡ schedule_verdict setup (schedule_of text)
-short_schedule setup text short = rw (le-ltb limit (length text) short) refl
+pub short_schedule : (kind : MachineKind) (setup : Setup) (text : List ℕ) → length text ≤ limit → text_verdict kind setup text ≡ schedule_verdict kind setup (schedule_of text)
+short_schedule kind setup text short = rw (le-ltb limit (length text) short) refl
 
 unread_schedule : (text : List ℕ) (exit : Exit) → IsFileRead (Some text) (Err exit) → IsScheduleJudged text (Err exit)
-unread_schedule text exits.TooLong read = λ setup. long_schedule setup text read
+unread_schedule text exits.TooLong read = λ kind setup. long_schedule kind setup text read
 unread_schedule text exits.ReadFault read = tt
 unread_schedule text exits.Want read = tt
 unread_schedule text exits.Done read = absurd read
@@ -111,7 +114,7 @@ schedule_unread None content exit read = tt
 schedule_unread (Some held) content exit read = unread_schedule (content held) exit read
 
 refused_schedule : (text : List ℕ) (fault : ScheduleFault) → length text ≤ limit → IsTextRead (schedule_of text) (Err fault) → IsScheduleJudged text (Err (exit_of_fault fault))
-refused_schedule text (faults.Text line rule) short read = λ setup. short_schedule setup text short ∙ ap (schedule_verdict setup) read
+refused_schedule text (faults.Text line rule) short read = λ kind setup. short_schedule kind setup text short ∙ ap (schedule_verdict kind setup) read
 refused_schedule text faults.Want short read = tt
 
 pub schedule_refused : {A : Type 0} (told : Option A) (content : A → List ℕ) (text : Vec ℕ Global) (fault : ScheduleFault) → IsFileRead (option_map content told) (Ok text)
@@ -120,7 +123,7 @@ schedule_refused None content text fault file read = tt
 schedule_refused (Some held) content text fault file read = rw (← file.0) (refused_schedule text.items fault file.1 read)
 
 judged_schedule : (text : List ℕ) (lines : Vec Line Global) → length text ≤ limit → schedule_of text ≡ Ok lines.items → IsScheduleJudged text (Ok lines)
-judged_schedule text lines short read = λ setup. short_schedule setup text short ∙ ap (schedule_verdict setup) read
+judged_schedule text lines short read = λ kind setup. short_schedule kind setup text short ∙ ap (schedule_verdict kind setup) read
 
 pub schedule_read : {A : Type 0} (told : Option A) (content : A → List ℕ) (text : Vec ℕ Global) (lines : Vec Line Global) → IsFileRead (option_map content told) (Ok text)
     → schedule_of text.items ≡ Ok lines.items → IfSome told (λ held. IsScheduleJudged (content held) (Ok lines))
@@ -151,27 +154,27 @@ group_answers group schedule exits.TurnsSpent is judged = absurd cc
 group_answers group schedule exits.WriteFault is judged = absurd cc
 group_answers group schedule (exits.Premise event what) is judged = absurd cc
 
-pub schedule_answers : (group schedule : List ℕ) (setup : Setup) (exit : Exit) → IsTrue (is_reading exit) → IsGroupJudged group (Ok setup) → IsScheduleJudged schedule (Err exit)
+pub schedule_answers : (group schedule : List ℕ) (scene : Scene) (exit : Exit) → IsTrue (is_reading exit) → IsGroupJudged group (Ok scene) → IsScheduleJudged schedule (Err exit)
     → IsAnswer (replay_verdict group schedule) exit
-schedule_answers group schedule setup exits.Want is judged read = tt
-schedule_answers group schedule setup exits.ReadFault is judged read = tt
-schedule_answers group schedule setup (exits.Text line rule) is judged read = rw (judged schedule ∙ read setup) refl
-schedule_answers group schedule setup (exits.Group field) is judged read = rw (judged schedule ∙ read setup) refl
-schedule_answers group schedule setup exits.TooLong is judged read = rw (judged schedule ∙ read setup) refl
-schedule_answers group schedule setup exits.Done is judged read = absurd cc
-schedule_answers group schedule setup (exits.Usage word) is judged read = absurd cc
-schedule_answers group schedule setup exits.LinkFault is judged read = absurd cc
-schedule_answers group schedule setup exits.DiskFault is judged read = absurd cc
-schedule_answers group schedule setup exits.NotJournal is judged read = absurd cc
-schedule_answers group schedule setup (exits.Damaged gate) is judged read = absurd cc
-schedule_answers group schedule setup exits.JournalFull is judged read = absurd cc
-schedule_answers group schedule setup exits.TurnsSpent is judged read = absurd cc
-schedule_answers group schedule setup exits.WriteFault is judged read = absurd cc
-schedule_answers group schedule setup (exits.Premise event what) is judged read = absurd cc
+schedule_answers group schedule scene exits.Want is judged read = tt
+schedule_answers group schedule scene exits.ReadFault is judged read = tt
+schedule_answers group schedule scene (exits.Text line rule) is judged read = rw (judged schedule ∙ read scene.machine scene.setup) refl
+schedule_answers group schedule scene (exits.Group field) is judged read = rw (judged schedule ∙ read scene.machine scene.setup) refl
+schedule_answers group schedule scene exits.TooLong is judged read = rw (judged schedule ∙ read scene.machine scene.setup) refl
+schedule_answers group schedule scene exits.Done is judged read = absurd cc
+schedule_answers group schedule scene (exits.Usage word) is judged read = absurd cc
+schedule_answers group schedule scene exits.LinkFault is judged read = absurd cc
+schedule_answers group schedule scene exits.DiskFault is judged read = absurd cc
+schedule_answers group schedule scene exits.NotJournal is judged read = absurd cc
+schedule_answers group schedule scene (exits.Damaged gate) is judged read = absurd cc
+schedule_answers group schedule scene exits.JournalFull is judged read = absurd cc
+schedule_answers group schedule scene exits.TurnsSpent is judged read = absurd cc
+schedule_answers group schedule scene exits.WriteFault is judged read = absurd cc
+schedule_answers group schedule scene (exits.Premise event what) is judged read = absurd cc
 
 -- ---- how a file stops
 
-pub setup_reads : (read : Result ReplayGroup ℕ) (r : Result Setup Exit) → IsSetupRead read r → IsReading r
+pub setup_reads : (read : Result ReplayGroup ℕ) (r : Result Scene Exit) → IsSetupRead read r → IsReading r
 setup_reads read (Ok setup) is = tt
 setup_reads read (Err (exits.Group field)) is = refl
 setup_reads read (Err exits.Want) is = refl
@@ -189,6 +192,6 @@ setup_reads read (Err (exits.Text line rule)) is = absurd is
 setup_reads read (Err (exits.Premise event what)) is = absurd is
 setup_reads read (Err exits.TooLong) is = absurd is
 
-pub setup_starts : (read : Result ReplayGroup ℕ) (r : Result Setup Exit) → IsSetupRead read r → IfOk r IsStart
+pub setup_starts : (read : Result ReplayGroup ℕ) (r : Result Scene Exit) → IsSetupRead read r → IfOk r (λ scene. IsStart scene.setup)
 setup_starts read (Ok setup) is = is.0
 setup_starts read (Err exit) is = tt

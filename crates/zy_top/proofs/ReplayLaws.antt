@@ -1,4 +1,5 @@
 -- What a replay comes to is the verdict on its run.
+use Rattle.zy_group.specs.declared.machine.MachineKind.{MachineKind}
 use Rattle.std.proofs.Common.{◌≡◌, ℕ, ◌+◌, List, [], ◌++◌, length, Option, Result, Ok, Err, refl, sym, ap, ◌∙◌, arith}
 use Rattle.zy_base.specs.Machine.{Rules}
 use Rattle.zy_world_law.specs.Events as events
@@ -14,19 +15,21 @@ use Rattle.zy_top_words.specs.declared.exit.Exit.{Exit}
 use Rattle.zy_top_words.specs.declared.exit.Exit.TheVariants as exits
 use Rattle.zy_top.specs.declared.tale.Tale.{Tale}
 
-module _ {S : Type 0} (R : Rules S) (r : Run S) (old new : Tale) (none : old.tally.events ≡ 0) (empty : old.text.items ≡ []) (adds : Adds old new r.notes) where
-  told : new.text.items ≡ note_lines 1 r.notes
-  told = adds.text ∙ ap (λ t. t ++ note_lines (old.tally.events + 1) r.notes) empty ∙ ap (λ n. note_lines (n + 1) r.notes) none
+module _ {S : Type 0} (kind : MachineKind) (R : Rules S) (r : Run S) (old new : Tale) (is_of : old.machine ≡ kind) (none : old.tally.events ≡ 0) (empty : old.text.items ≡ []) (adds : Adds old new r.notes) where
+  told : new.text.items ≡ note_lines kind 1 r.notes
+  told =
+      adds.text ∙ ap (λ t. t ++ note_lines old.machine (old.tally.events + 1) r.notes) empty ∙ ap (λ n. note_lines old.machine (n + 1) r.notes) none
+      ∙ ap (λ k. note_lines k 1 r.notes) is_of
 
-  pub whole_report : (v : World S) (text : List ℕ) → r.end ≡ End.At v → text ≡ new.text.items ++ end_lines R v → Verdict.Report text ≡ run_verdict R r
+  pub whole_report : (v : World S) (text : List ℕ) → r.end ≡ End.At v → text ≡ new.text.items ++ end_lines R v → Verdict.Report text ≡ run_verdict kind R r
   whole_report v text ended is =
-      ap Verdict.Report (is ∙ ap (λ t. t ++ end_lines R v) told) ∙ sym (ap (told_verdict R r.notes) ended)
+      ap Verdict.Report (is ∙ ap (λ t. t ++ end_lines R v) told) ∙ sym (ap (told_verdict kind R r.notes) ended)
 
   pub broken_report : (broken : events.Broken) (what : Broken) → r.end ≡ End.Stopped broken → what ≡ what_broke broken
-      → Verdict.Broke new.text.items (exits.Premise (new.tally.events + 1) what) ≡ run_verdict R r
+      → Verdict.Broke new.text.items (exits.Premise (new.tally.events + 1) what) ≡ run_verdict kind R r
   broken_report broken what ended is =
       let number : new.tally.events + 1 ≡ length r.notes + 1 = omega (arith, adds.events, none) in
-      rw (told, number, is) (sym (ap (told_verdict R r.notes) ended))
+      rw (told, number, is) (sym (ap (told_verdict kind R r.notes) ended))
 
 -- ---- what is written
 

@@ -11,28 +11,27 @@ use Rattle.zy_top.specs.Verdict.{reply_line, report_from}
 use Rattle.zy_top_words.specs.declared.exit.Exit.{Exit}
 use Rattle.zy_top_words.specs.declared.exit.Exit.TheVariants as exits
 
--- what was taken, what stands in the buffer and what further operations reply make the report of all
-pub record Reported (before now : Option (List ℕ)) (ops : List Op) (buffer : List ℕ) (tuples : List (List Field)) (further : List Op) : Type 0 where
+-- what was taken, what stands in the buffer and what is still to come make the report
+pub record Reported (before now : Option (List ℕ)) (report buffer further : List ℕ) : Type 0 where
   pub front : List ℕ
-  pub whole : report_from [] ops ≡ front ++ (buffer ++ report_from tuples further)
+  pub whole : report ≡ front ++ (buffer ++ further)
   pub taken : Appends before now front
 
-pub Reported-none : (before : Option (List ℕ)) (ops : List Op) → Reported before before ops [] [] ops
-Reported-none before ops = record { front = []; whole = refl; taken = Appends-nil before }
+pub Reported-none : (before : Option (List ℕ)) (report : List ℕ) → Reported before before report [] report
+Reported-none before report = record { front = []; whole = refl; taken = Appends-nil before }
 
--- one operation more
-pub Reported-more : {before now : Option (List ℕ)} {ops : List Op} {buffer : List ℕ} (grown : List ℕ) {tuples : List (List Field)} (left : List (List Field)) (op : Op) {further : List Op}
-    → Reported before now ops buffer tuples (op ∷ further) → grown ≡ buffer ++ reply_line (step op tuples).reply → left ≡ (step op tuples).tuples
-    → Reported before now ops grown left further
-Reported-more grown left op reported line after = record {
+-- one line more
+pub Reported-more : {before now : Option (List ℕ)} {report buffer : List ℕ} (grown line : List ℕ) {further : List ℕ}
+    → Reported before now report buffer (line ++ further) → grown ≡ buffer ++ line → Reported before now report grown further
+Reported-more {report} {buffer} grown line {further} reported more = record {
   front = reported.front;
-  whole = rw (line, after, append_assoc) reported.whole;
+  whole = reported.whole ∙ ap (λ l. reported.front ++ l) (sym (append_assoc buffer line further) ∙ ap (λ l. l ++ further) (sym more));
   taken = reported.taken;
 }
 
 -- the buffer was written
-pub Reported-written : {before now : Option (List ℕ)} (then : Option (List ℕ)) {ops : List Op} {buffer : List ℕ} (bytes : List ℕ) {tuples : List (List Field)} {further : List Op}
-    → Reported before now ops buffer tuples further → bytes ≡ buffer → Appends now then bytes → Reported before then ops [] tuples further
+pub Reported-written : {before now : Option (List ℕ)} (then : Option (List ℕ)) {report buffer : List ℕ} (bytes : List ℕ) {further : List ℕ}
+    → Reported before now report buffer further → bytes ≡ buffer → Appends now then bytes → Reported before then report [] further
 Reported-written {now} then {buffer} bytes reported same wrote = record {
   front = reported.front ++ buffer;
   whole = rw append_assoc reported.whole;
@@ -40,34 +39,30 @@ Reported-written {now} then {buffer} bytes reported same wrote = record {
 }
 
 -- no more is written
-pub Reported-stopped : {before now : Option (List ℕ)} {ops : List Op} {buffer : List ℕ} {tuples : List (List Field)} {further : List Op}
-    → Reported before now ops buffer tuples further → AppendsFront before now (report_from [] ops)
-Reported-stopped {buffer} {tuples} {further} reported =
-    (buffer ++ report_from tuples further, record { front = reported.front; whole = reported.whole; taken = reported.taken })
+pub Reported-stopped : {before now : Option (List ℕ)} {report buffer further : List ℕ} → Reported before now report buffer further → AppendsFront before now report
+Reported-stopped {buffer} {further} reported =
+    (buffer ++ further, record { front = reported.front; whole = reported.whole; taken = reported.taken })
 
 -- a front of the buffer was written
-Reported-part : {before now : Option (List ℕ)} (then : Option (List ℕ)) {ops : List Op} {buffer : List ℕ} {tuples : List (List Field)} {further : List Op}
-    → Reported before now ops buffer tuples further → AppendsFront now then buffer → AppendsFront before then (report_from [] ops)
-Reported-part {now} then {tuples} {further} reported wrote = (
-  wrote.0 ++ report_from tuples further,
+Reported-part : {before now : Option (List ℕ)} (then : Option (List ℕ)) {report buffer further : List ℕ} → Reported before now report buffer further → AppendsFront now then buffer → AppendsFront before then report
+Reported-part {now} then {further} reported wrote = (
+  wrote.0 ++ further,
   record {
     front = reported.front ++ wrote.1.front;
-    whole = reported.whole ∙ ap (λ l. reported.front ++ (l ++ report_from tuples further)) wrote.1.whole
-        ∙ ap (λ l. reported.front ++ l) (append_assoc wrote.1.front wrote.0 (report_from tuples further))
-        ∙ sym (append_assoc reported.front wrote.1.front (wrote.0 ++ report_from tuples further));
+    whole = reported.whole ∙ ap (λ l. reported.front ++ (l ++ further)) wrote.1.whole ∙ ap (λ l. reported.front ++ l) (append_assoc wrote.1.front wrote.0 further)
+        ∙ sym (append_assoc reported.front wrote.1.front (wrote.0 ++ further));
     taken = Appends-trans _ now then _ _ reported.taken wrote.1.taken;
   },
 )
 
--- all operations are done, and the buffer was written
-Reported-all : {before now : Option (List ℕ)} (then : Option (List ℕ)) {ops : List Op} {buffer : List ℕ} {tuples : List (List Field)}
-    → Reported before now ops buffer tuples [] → Appends now then buffer → Appends before then (report_from [] ops)
-Reported-all {before} {now} then {ops} {buffer} reported wrote =
+-- nothing is still to come, and the buffer was written
+Reported-all : {before now : Option (List ℕ)} (then : Option (List ℕ)) {report buffer : List ℕ} → Reported before now report buffer [] → Appends now then buffer → Appends before then report
+Reported-all {before} {now} then {report} {buffer} reported wrote =
     subst (Appends before then) (sym (reported.whole ∙ ap (λ l. reported.front ++ l) (append-nil buffer))) (Appends-trans _ now then _ _ reported.taken wrote)
 
 -- the buffer could not be written whole
-pub IsSent-part : {before now : Option (List ℕ)} (then : Option (List ℕ)) {ops : List Op} {buffer : List ℕ} (bytes : List ℕ) {tuples : List (List Field)} {further : List Op}
-    (exit : Exit) → Reported before now ops buffer tuples further → bytes ≡ buffer → IsSent now then bytes (Err exit) → IsSent before then (report_from [] ops) (Err exit)
+pub IsSent-part : {before now : Option (List ℕ)} (then : Option (List ℕ)) {report buffer : List ℕ} (bytes : List ℕ) {further : List ℕ}
+    (exit : Exit) → Reported before now report buffer further → bytes ≡ buffer → IsSent now then bytes (Err exit) → IsSent before then report (Err exit)
 IsSent-part then bytes exits.Want reported same sent = Reported-part then reported (rw same at sent)
 IsSent-part then bytes exits.WriteFault reported same sent = Reported-part then reported (rw same at sent)
 IsSent-part then bytes exits.Done reported same sent = absurd sent
@@ -85,7 +80,7 @@ IsSent-part then bytes (exits.Premise event what) reported same sent = absurd se
 IsSent-part then bytes exits.TooLong reported same sent = absurd sent
 
 -- the last write decides
-pub IsSent-last : {before now : Option (List ℕ)} (then : Option (List ℕ)) {ops : List Op} {buffer : List ℕ} (bytes : List ℕ) {tuples : List (List Field)}
-    (result : Result (Unit {0}) Exit) → Reported before now ops buffer tuples [] → bytes ≡ buffer → IsSent now then bytes result → IsSent before then (report_from [] ops) result
+pub IsSent-last : {before now : Option (List ℕ)} (then : Option (List ℕ)) {report buffer : List ℕ} (bytes : List ℕ)
+    (result : Result (Unit {0}) Exit) → Reported before now report buffer [] → bytes ≡ buffer → IsSent now then bytes result → IsSent before then report result
 IsSent-last then bytes (Ok _) reported same sent = Reported-all then reported (rw same at sent)
 IsSent-last then bytes (Err exit) reported same sent = IsSent-part then bytes exit reported same sent

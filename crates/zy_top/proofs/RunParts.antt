@@ -1,4 +1,5 @@
 -- How the parts of a run follow one another.
+use Rattle.zy_group.specs.declared.machine.MachineKind.{MachineKind}
 use Rattle.std.proofs.Common.{◌≡◌, ℕ, ◌+◌, ◌<◌, ◌≤◌, Bool, cond, take, get_or, List, [], ◌∷◌, ◌++◌, length, Result, Ok, Err, refl, sym, ap, ◌∙◌, subst, append_assoc, append-nil, length-append, arith}
 use Rattle.std.specs.Prelude.{count_by}
 use Rattle.std.proofs.lemmas.List.{take_all, take_more}
@@ -27,12 +28,12 @@ use Rattle.zy_top.specs.declared.tale.Tale.{Tale}
 
 -- ---- what is told
 
-pub note_lines_append : (n : ℕ) (a b : List Note) → note_lines n (a ++ b) ≡ note_lines n a ++ note_lines (n + length a) b
-note_lines_append n [] b = let same : n ≡ n + 0 = omega arith in ap (λ m. note_lines m b) same
-note_lines_append n (note ∷ a) b =
+pub note_lines_append : (kind : MachineKind) (n : ℕ) (a b : List Note) → note_lines kind n (a ++ b) ≡ note_lines kind n a ++ note_lines kind (n + length a) b
+note_lines_append kind n [] b = let same : n ≡ n + 0 = omega arith in ap (λ m. note_lines kind m b) same
+note_lines_append kind n (note ∷ a) b =
     let same : n + 1 + length a ≡ n + length (note ∷ a) = omega arith in
-    ap (λ l. note_line n note ++ l) (note_lines_append (n + 1) a b ∙ ap (λ m. note_lines (n + 1) a ++ note_lines m b) same)
-    ∙ sym (append_assoc (note_line n note) (note_lines (n + 1) a) (note_lines (n + length (note ∷ a)) b))
+    ap (λ l. note_line kind n note ++ l) (note_lines_append kind (n + 1) a b ∙ ap (λ m. note_lines kind (n + 1) a ++ note_lines kind m b) same)
+    ∙ sym (append_assoc (note_line kind n note) (note_lines kind (n + 1) a) (note_lines kind (n + length (note ∷ a)) b))
 
 counted : (test : Note → Bool) (a b : List Note) (x y z : ℕ) → y ≡ x + count_by test a → z ≡ y + count_by test b → z ≡ x + count_by test (a ++ b)
 counted test a b x y z first second = omega (arith, first, second, sum_by-append (λ note. cond (test note) 1 0) a b)
@@ -43,6 +44,7 @@ Adds-none t = record {
   fast = omega arith;
   slow = omega arith;
   refused = omega arith;
+  machine = refl;
   text = sym (append-nil t.text.items);
 }
 
@@ -54,11 +56,13 @@ Adds-then a b c first second before after =
       fast = counted is_done_fast first second a.tally.fast b.tally.fast c.tally.fast before.fast after.fast;
       slow = counted is_done_slow first second a.tally.slow b.tally.slow c.tally.slow before.slow after.slow;
       refused = counted is_refused first second a.tally.refused b.tally.refused c.tally.refused before.refused after.refused;
+      machine = after.machine ∙ before.machine;
       text =
-          after.text ∙ ap (λ t. t ++ note_lines (b.tally.events + 1) second) before.text
-          ∙ append_assoc a.text.items (note_lines (a.tally.events + 1) first) (note_lines (b.tally.events + 1) second)
+          after.text ∙ ap (λ k. b.text.items ++ note_lines k (b.tally.events + 1) second) before.machine
+          ∙ ap (λ t. t ++ note_lines a.machine (b.tally.events + 1) second) before.text
+          ∙ append_assoc a.text.items (note_lines a.machine (a.tally.events + 1) first) (note_lines a.machine (b.tally.events + 1) second)
           ∙ ap (λ l. a.text.items ++ l)
-          (ap (λ n. note_lines (a.tally.events + 1) first ++ note_lines n second) number ∙ sym (note_lines_append (a.tally.events + 1) first second));
+          (ap (λ n. note_lines a.machine (a.tally.events + 1) first ++ note_lines a.machine n second) number ∙ sym (note_lines_append a.machine (a.tally.events + 1) first second));
     }
 
 -- one event more
@@ -207,6 +211,7 @@ module _ {S : Type 0} where
   -- a line makes of a world what is done that it asks for
   pub line_acts : (R : Rules S) (line : Line) (rest : Rest S) (w : World S) → run_line R line rest w ≡ act_part R (act_of line) rest w
   line_acts R (lines.Ask client op) rest w = refl
+  line_acts R (lines.AskHex client op) rest w = refl
   line_acts R (lines.Deliver frame to) rest w = refl
   line_acts R (lines.Timer party kind) rest w = refl
   line_acts R (lines.Order liar view asks to) rest w = refl

@@ -1,4 +1,6 @@
 -- What is told of a run that isn't forged isn't a forged signature.
+use Rattle.zy_group.specs.declared.machine.MachineKind.{MachineKind}
+use Rattle.zy_top_words.specs.Machines.{rules}
 use Rattle.std.proofs.Common.{◌≡◌, ℕ, ◌+◌, ◌≤◌, Bool, true, false, List, [], ◌∷◌, ◌++◌, map, length, Option, Some, None, IfSome, Result, Ok, Err, refl, ap, ◌∙◌, subst, lit≤}
 use Rattle.std.specs.Prelude.{if◌then◌else◌, ◌-◌, ◌/◌, ◌%◌, ◌==◌, nat_lt}
 use Rattle.std.specs.List.{AllByRecursion, flat_map, range_with_len}
@@ -63,24 +65,24 @@ answer_true v exits.TooLong answer fine = refl
 
 -- ---- a replay
 
-told_true : {S : Type 0} (R : Rules S) (notes : List Note) (end : End S) → IsUnforged end → IsTrueVerdict (told_verdict R notes end)
-told_true R notes (End.At w) unforged = tt
-told_true R notes (End.Stopped (Forged by)) unforged = absurd unforged
-told_true R notes (End.Stopped (Clash d)) unforged = refl
+told_true : {S : Type 0} (kind : MachineKind) (R : Rules S) (notes : List Note) (end : End S) → IsUnforged end → IsTrueVerdict (told_verdict kind R notes end)
+told_true kind R notes (End.At w) unforged = tt
+told_true kind R notes (End.Stopped (Forged by)) unforged = absurd unforged
+told_true kind R notes (End.Stopped (Clash d)) unforged = refl
 
 by_limit : (b : Bool) (v : Verdict) → IsTrueVerdict v → IsTrueVerdict (if b then Verdict.Refused exits.TooLong else v)
 by_limit true v fine = refl
 by_limit false v fine = fine
 
-lines_true : (setup : Setup) (r : Result (List Line) TextFault) → ((lines : List Line) → r ≡ Ok lines → IsUnforged (run space_rules lines (start space_rules setup)).end) → IsTrueVerdict (schedule_verdict setup r)
-lines_true setup (Err fault) unforged = refl
-lines_true setup (Ok lines) unforged = let r = run space_rules lines (start space_rules setup) in told_true space_rules r.notes r.end (unforged lines refl)
+lines_true : (kind : MachineKind) (setup : Setup) (r : Result (List Line) TextFault) → ((lines : List Line) → r ≡ Ok lines → IsUnforged (run (rules kind) lines (start (rules kind) setup)).end) → IsTrueVerdict (schedule_verdict kind setup r)
+lines_true kind setup (Err fault) unforged = refl
+lines_true kind setup (Ok lines) unforged = let r = run (rules kind) lines (start (rules kind) setup) in told_true kind (rules kind) r.notes r.end (unforged lines refl)
 
-group_true : (g : Result ReplayGroup ℕ) (text : List ℕ) → ((told : ReplayGroup) (lines : List Line) → g ≡ Ok told → schedule_of text ≡ Ok lines → IsUnforged (run space_rules lines (start space_rules (setup_of told))).end) → IsTrueVerdict (group_verdict g text)
+group_true : (g : Result ReplayGroup ℕ) (text : List ℕ) → ((told : ReplayGroup) (lines : List Line) → g ≡ Ok told → schedule_of text ≡ Ok lines → IsUnforged (run (rules told.machine) lines (start (rules told.machine) (setup_of told))).end) → IsTrueVerdict (group_verdict g text)
 group_true (Err field) text unforged = refl
-group_true (Ok told) text unforged = by_limit (nat_lt limit (length text)) _ (lines_true (setup_of told) (schedule_of text) (λ lines spelled. unforged told lines refl spelled))
+group_true (Ok told) text unforged = by_limit (nat_lt limit (length text)) _ (lines_true told.machine (setup_of told) (schedule_of text) (λ lines spelled. unforged told lines refl spelled))
 
-replay_true : (group text : List ℕ) → ((told : ReplayGroup) (lines : List Line) → group_of group ≡ Ok told → schedule_of text ≡ Ok lines → IsUnforged (run space_rules lines (start space_rules (setup_of told))).end) → IsTrueVerdict (replay_verdict group text)
+replay_true : (group text : List ℕ) → ((told : ReplayGroup) (lines : List Line) → group_of group ≡ Ok told → schedule_of text ≡ Ok lines → IsUnforged (run (rules told.machine) lines (start (rules told.machine) (setup_of told))).end) → IsTrueVerdict (replay_verdict group text)
 replay_true group text unforged = by_limit (nat_lt limit (length group)) _ (group_true (group_of group) text unforged)
 
 -- where nobody lies

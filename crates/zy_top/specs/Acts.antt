@@ -14,6 +14,7 @@ use Rattle.zy_top.specs.declared.acts.Act.TheVariants as acts
 
 abbrev pub act_of : Line → Act
 act_of (lines.Ask client op) = acts.Event (events.Ask client (op_bytes op))
+act_of (lines.AskHex client op) = acts.Event (events.Ask client op)
 act_of (lines.Deliver frame to) = acts.Event (events.Deliver frame to)
 act_of (lines.Timer party kind) = acts.Event (events.Timer party kind)
 act_of (lines.Order liar view asks to) = acts.Event (events.Order liar view asks to)

@@ -6,6 +6,7 @@ use Rattle.zy_calm.specs.Calm.{IsCalm}
 use Rattle.zy_calm.specs.Law.{calm_run}
 use Rattle.zy_calm.specs.Notes.{calm_notes}
 use Rattle.zy_edge.specs.Files.{Held, content_of}
+use Rattle.zy_group.specs.declared.machine.MachineKind.TheVariants as kinds
 use Rattle.zy_group.specs.declared.replay.ReplayGroup.{ReplayGroup}
 use Rattle.zy_report.specs.Lines.{summary_line}
 use Rattle.zy_schedule.specs.Reading.{schedule_of}
@@ -23,23 +24,24 @@ use Rattle.zy_world_law.specs.Setup.{Setup}
 use Rattle.zy_world_law.specs.World.{World, start}
 use Rattle.zy_world_law.specs.declared.note.Note.{Note}
 
--- One text tells of this group, and the other spells a schedule that is calm in its world. Neither is too long.
+-- One text tells of this group, which replicates the tuple space, and the other spells a schedule that is calm in its world. Neither is too long.
 pub record IsCalmReplay (told : ReplayGroup) (path : Path) (muted : List ℕ) (asks : List CalmAsk) (group schedule : List ℕ) : Type 0 where
   pub group_fits : length group ≤ limit
   pub group_told : group_of group ≡ Ok told
+  pub machine : told.machine ≡ kinds.Space
   pub schedule_fits : length schedule ≤ limit
   pub schedule_spelled : schedule_of schedule ≡ Ok (calm_lines path muted asks)
   pub calm : IsCalm (setup_of told) path muted asks
 
 -- the lines of a calm run, and then where all stand in the world at its end
 abbrev pub calm_report : {S : Type 0} → Rules S → Setup → Path → List ℕ → List CalmAsk → World S → List ℕ
-calm_report R setup path muted asks w = note_lines 1 (calm_notes R setup path muted asks) ++ end_lines R w
+calm_report R setup path muted asks w = note_lines kinds.Space 1 (calm_notes R setup path muted asks) ++ end_lines R w
 
 -- That report is due; or at some event two texts share a digest, and what is told of the events before it.
 abbrev pub IsCalmVerdict : {S : Type 0} → Rules S → Setup → Path → List ℕ → List CalmAsk → Verdict → Type 0
 IsCalmVerdict {S} R setup path muted asks due =
     ((w : World S) × ((calm_run R setup path muted asks).end ≡ End.At w) × (due ≡ Verdict.Report (calm_report R setup path muted asks w)))
-    ⊎ ((told : List Note) × (due ≡ Verdict.Broke (note_lines 1 told) (exits.Premise (length told + 1) broken.Clash)))
+    ⊎ ((told : List Note) × (due ≡ Verdict.Broke (note_lines kinds.Space 1 told) (exits.Premise (length told + 1) broken.Clash)))
 
 -- where a group and a schedule are calm, that is due of them
 abbrev pub IsServedReplay : List ℕ → List ℕ → Type 0
@@ -72,6 +74,7 @@ IsServedCommand told (Ok (Command.Replay group schedule)) = IfSome told (λ file
 IsServedCommand told (Ok (Command.Calm f silent asks)) = IsServedCalm f silent asks
 IsServedCommand told (Ok (Command.Make number asks)) = ⊤
 IsServedCommand told (Ok (Command.Space script)) = ⊤
+IsServedCommand told (Ok (Command.Guard script)) = ⊤
 IsServedCommand told (Ok (Command.Keys seed by height)) = ⊤
 IsServedCommand told (Ok (Command.Node group secret id turns)) = ⊤
 IsServedCommand told (Ok (Command.Ask group secret id turns op)) = ⊤

@@ -17,6 +17,7 @@ LeavesDisk exit old new = (new ≡ old) × (IsTrue (is_of_journal exit) → ⊥)
 abbrev pub IsKeptCommand : {D : Type 0} → (D → Option (List ℕ)) → (D → List ℕ → Type 0) → (D → ℕ) → (D → ℕ → List ℕ → Type 0) → Option Held → Result Command ℕ → Exit → Surroundings → Surroundings → Option (List ℕ) → Option (List ℕ) → D → D → Type 0
 IsKeptCommand contents may_leave moment left_since told (Err word) exit from to before after old new = LeavesDisk exit old new
 IsKeptCommand contents may_leave moment left_since told (Ok (Command.Space script)) exit from to before after old new = LeavesDisk exit old new
+IsKeptCommand contents may_leave moment left_since told (Ok (Command.Guard script)) exit from to before after old new = LeavesDisk exit old new
 IsKeptCommand contents may_leave moment left_since told (Ok (Command.Replay group schedule)) exit from to before after old new = LeavesDisk exit old new
 IsKeptCommand contents may_leave moment left_since told (Ok (Command.Keys seed by height)) exit from to before after old new = LeavesDisk exit old new
 IsKeptCommand contents may_leave moment left_since told (Ok (Command.Make number asks)) exit from to before after old new = LeavesDisk exit old new
@@ -30,6 +31,7 @@ IsKeptCommand contents may_leave moment left_since told (Ok (Command.Serve group
 abbrev pub GoesOnItself : Option Held → Option (List ℕ) → Result Command ℕ → Exit → Type 0
 GoesOnItself told contents (Err word) exit = ⊤
 GoesOnItself told contents (Ok (Command.Space script)) exit = ⊤
+GoesOnItself told contents (Ok (Command.Guard script)) exit = ⊤
 GoesOnItself told contents (Ok (Command.Replay group schedule)) exit = ⊤
 GoesOnItself told contents (Ok (Command.Keys seed by height)) exit = ⊤
 GoesOnItself told contents (Ok (Command.Make number asks)) exit = ⊤

@@ -8,3 +8,4 @@ pub mod Hosting
 pub mod Truthful
 pub mod Acts
 pub mod Calm
+pub mod GuardScript

@@ -3,13 +3,15 @@ use Rattle.std.specs.Prelude.{◌≡◌, ℕ, ◌+◌, nat_lt, Bool, true, false
 use Rattle.std.specs.List.{AllByRecursion}
 use Rattle.std.specs.declared.alloc.Global.{Global}
 use Rattle.zy_base.specs.Machine.{Rules}
+use Rattle.zy_group.specs.declared.machine.MachineKind.{MachineKind}
+use Rattle.zy_group.specs.declared.machine.MachineKind.TheVariants as kinds
 use Rattle.zy_group.specs.declared.replay.ReplayGroup.{ReplayGroup}
 use Rattle.zy_edge.specs.Files.{Held, content_of}
 use Rattle.zy_schedule.specs.Making.{made_lines}
 use Rattle.zy_schedule.specs.Reading.{schedule_of}
 use Rattle.zy_schedule.specs.declared.line.Line.{Line}
 use Rattle.zy_world_setup.specs.Starting.{IsStart}
-use Rattle.zy_space.specs.Service.{IsSpaceState, space_rules}
+use Rattle.zy_top_words.specs.Machines.{IsStateOf, rules}
 use Rattle.zy_world.specs.Flowing.{Passes, Stops, all_done}
 use Rattle.zy_world.specs.Shown.{Shown}
 use Rattle.zy_world.specs.Shows.{Shows}
@@ -30,19 +32,20 @@ use Rattle.zy_top.specs.Verdict.{replay_verdict, run_verdict, schedule_verdict, 
 use Rattle.zy_top_words.specs.Words.{Command}
 use Rattle.zy_top_words.specs.declared.exit.Exit.{Exit}
 use Rattle.zy_top_words.specs.declared.exit.Exit.TheVariants as exits
+use Rattle.zy_top.specs.declared.group.Scene.{Scene}
 use Rattle.zy_top.specs.declared.replayed.Replayed as replayed
 use Rattle.zy_top.specs.declared.running.Stop as stops
 use Rattle.zy_top.specs.declared.tale.Tale.{Tale}
 
 -- ---- groups
 
--- a group was read, and tells of this setup
-abbrev pub IsSetupOf : Result ReplayGroup ℕ → Setup → Type 0
-IsSetupOf read setup = (group : ReplayGroup) × (read ≡ Ok group) × (setup ≡ setup_of group)
+-- a group was read, and tells of this machine and this setup
+abbrev pub IsSceneOf : Result ReplayGroup ℕ → Scene → Type 0
+IsSceneOf read scene = (group : ReplayGroup) × (read ≡ Ok group) × (scene.machine ≡ group.machine) × (scene.setup ≡ setup_of group)
 
--- the group told of this setup, or a field of it fails, or memory is wanted
-abbrev pub IsSetupRead : Result ReplayGroup ℕ → Result Setup Exit → Type 0
-IsSetupRead read (Ok setup) = IsStart setup × IsSetupOf read setup
+-- the group told of them, or a field of it fails, or memory is wanted
+abbrev pub IsSetupRead : Result ReplayGroup ℕ → Result Scene Exit → Type 0
+IsSetupRead read (Ok scene) = IsStart scene.setup × IsSceneOf read scene
 IsSetupRead read (Err (exits.Group field)) = read ≡ Err field
 IsSetupRead read (Err exits.Want) = ⊤
 IsSetupRead read (Err exit) = ⊥
@@ -55,7 +58,8 @@ pub record Adds (old new : Tale) (notes : List Note) : Type 0 where
   pub fast : new.tally.fast ≡ old.tally.fast + count_by is_done_fast notes
   pub slow : new.tally.slow ≡ old.tally.slow + count_by is_done_slow notes
   pub refused : new.tally.refused ≡ old.tally.refused + count_by is_refused notes
-  pub text : new.text.items ≡ old.text.items ++ note_lines (old.tally.events + 1) notes
+  pub machine : new.machine ≡ old.machine
+  pub text : new.text.items ≡ old.text.items ++ note_lines old.machine (old.tally.events + 1) notes
 
 -- ---- runs
 
@@ -101,22 +105,22 @@ IsSummedUp verdict (Err exit) = ⊥
 -- ---- files
 
 -- the verdict on a schedule's text where the group is read
-abbrev pub text_verdict : Setup → List ℕ → Verdict
-text_verdict setup text = if nat_lt limit (length text) then Verdict.Refused exits.TooLong else schedule_verdict setup (schedule_of text)
+abbrev pub text_verdict : MachineKind → Setup → List ℕ → Verdict
+text_verdict kind setup text = if nat_lt limit (length text) then Verdict.Refused exits.TooLong else schedule_verdict kind setup (schedule_of text)
 
 -- a group was read, or it is refused
-abbrev pub IsGroupJudged : List ℕ → Result Setup Exit → Type 0
-IsGroupJudged group (Ok setup) = (schedule : List ℕ) → replay_verdict group schedule ≡ text_verdict setup schedule
+abbrev pub IsGroupJudged : List ℕ → Result Scene Exit → Type 0
+IsGroupJudged group (Ok scene) = (schedule : List ℕ) → replay_verdict group schedule ≡ text_verdict scene.machine scene.setup schedule
 IsGroupJudged group (Err exits.Want) = ⊤
 IsGroupJudged group (Err exits.ReadFault) = ⊤
 IsGroupJudged group (Err exit) = (schedule : List ℕ) → replay_verdict group schedule ≡ Verdict.Refused exit
 
 -- a schedule was read, or it is refused
 abbrev pub IsScheduleJudged : List ℕ → Result (Vec Line Global) Exit → Type 0
-IsScheduleJudged text (Ok lines) = (setup : Setup) → text_verdict setup text ≡ run_verdict space_rules (run space_rules lines.items (start space_rules setup))
+IsScheduleJudged text (Ok lines) = (kind : MachineKind) (setup : Setup) → text_verdict kind setup text ≡ run_verdict kind (rules kind) (run (rules kind) lines.items (start (rules kind) setup))
 IsScheduleJudged text (Err exits.Want) = ⊤
 IsScheduleJudged text (Err exits.ReadFault) = ⊤
-IsScheduleJudged text (Err exit) = (setup : Setup) → text_verdict setup text ≡ Verdict.Refused exit
+IsScheduleJudged text (Err exit) = (kind : MachineKind) (setup : Setup) → text_verdict kind setup text ≡ Verdict.Refused exit
 
 -- a run that is made and written ends by no other exit
 abbrev pub is_running : Exit → Bool
@@ -132,28 +136,29 @@ IsRunning (Err exit) = IsTrue (is_running exit)
 -- ---- the runs of commands
 
 -- what holds of the run that a group and a schedule tell of
-abbrev pub OfReplay : (Setup → List Line → Type 0) → List ℕ → List ℕ → Type 0
+abbrev pub OfReplay : (MachineKind → Setup → List Line → Type 0) → List ℕ → List ℕ → Type 0
 OfReplay Holds group schedule =
-    (told : ReplayGroup) (lines : List Line) → group_of group ≡ Ok told → schedule_of schedule ≡ Ok lines → Holds (setup_of told) lines
+    (told : ReplayGroup) (lines : List Line) → group_of group ≡ Ok told → schedule_of schedule ≡ Ok lines → Holds told.machine (setup_of told) lines
 
 -- of the run of a made schedule
-abbrev pub OfMake : (Setup → List Line → Type 0) → ℕ → ℕ → Type 0
-OfMake Holds number asks = Holds (made_setup number) (made_lines number asks)
+abbrev pub OfMake : (MachineKind → Setup → List Line → Type 0) → ℕ → ℕ → Type 0
+OfMake Holds number asks = Holds kinds.Space (made_setup number) (made_lines number asks)
 
 -- of the run of a calm schedule in the wide profile
-abbrev pub OfCalm : (Setup → List Line → Type 0) → ℕ → ℕ → ℕ → Type 0
-OfCalm Holds f silent asks = Holds (calm_setup f) (calm_schedule f silent asks)
+abbrev pub OfCalm : (MachineKind → Setup → List Line → Type 0) → ℕ → ℕ → ℕ → Type 0
+OfCalm Holds f silent asks = Holds kinds.Space (calm_setup f) (calm_schedule f silent asks)
 
 -- of both, whatever the numbers are
-abbrev pub OfMade : (Setup → List Line → Type 0) → Type 0
+abbrev pub OfMade : (MachineKind → Setup → List Line → Type 0) → Type 0
 OfMade Holds = ((number asks : ℕ) → OfMake Holds number asks) × ((f silent asks : ℕ) → OfCalm Holds f silent asks)
 
 -- and of the run of a command, if it makes one; of that of a replay over files that are told
-abbrev pub OfCommand : (Setup → List Line → Type 0) → Option Held → Result Command ℕ → Type 0
+abbrev pub OfCommand : (MachineKind → Setup → List Line → Type 0) → Option Held → Result Command ℕ → Type 0
 OfCommand Holds told (Ok (Command.Replay group schedule)) = IfSome told (λ files. OfReplay Holds (content_of files group) (content_of files schedule))
 OfCommand Holds told (Ok (Command.Make number asks)) = OfMake Holds number asks
 OfCommand Holds told (Ok (Command.Calm f silent asks)) = OfCalm Holds f silent asks
 OfCommand Holds told (Ok (Command.Space script)) = ⊤
+OfCommand Holds told (Ok (Command.Guard script)) = ⊤
 OfCommand Holds told (Ok (Command.Keys seed by height)) = ⊤
 OfCommand Holds told (Ok (Command.Node group secret id turns)) = ⊤
 OfCommand Holds told (Ok (Command.Ask group secret id turns op)) = ⊤
@@ -163,9 +168,13 @@ OfCommand Holds told (Err word) = ⊤
 -- ---- the headline
 
 -- every world of the run is safe, and the agreed list before each event is a front of the one after it
-pub record IsSafeRun (setup : Setup) (schedule : List Line) : Type 0 where
-  pub safe : AllByRecursion (IsSafe space_rules) (worlds_of space_rules setup schedule)
-  pub grows : AllGrow space_rules (start space_rules setup) (run space_rules schedule (start space_rules setup)).worlds
+pub record IsSafeRunOf {S : Type 0} (R : Rules S) (setup : Setup) (schedule : List Line) : Type 0 where
+  pub safe : AllByRecursion (IsSafe R) (worlds_of R setup schedule)
+  pub grows : AllGrow R (start R setup) (run R schedule (start R setup)).worlds
+
+-- whichever machine its group names
+abbrev pub IsSafeRun : MachineKind → Setup → List Line → Type 0
+IsSafeRun kind setup schedule = IsSafeRunOf (rules kind) setup schedule
 
 abbrev pub IsSafeCommand : Option Held → Result Command ℕ → Type 0
 IsSafeCommand told asked = OfCommand IsSafeRun told asked
@@ -173,15 +182,15 @@ IsSafeCommand told asked = OfCommand IsSafeRun told asked
 -- ---- beside it
 
 -- in every world of the run no correct replica is blamed, whatever event is next
-abbrev pub IsBlamelessRun : Setup → List Line → Type 0
-IsBlamelessRun setup schedule = AllByRecursion (IsBlameless space_rules) (worlds_of space_rules setup schedule)
+abbrev pub IsBlamelessRun : MachineKind → Setup → List Line → Type 0
+IsBlamelessRun kind setup schedule = AllByRecursion (IsBlameless (rules kind)) (worlds_of (rules kind) setup schedule)
 
 abbrev pub IsBlamelessCommand : Option Held → Result Command ℕ → Type 0
 IsBlamelessCommand told asked = OfCommand IsBlamelessRun told asked
 
 -- in every world of the run what a correct party keeps is backed: its signers said it, or they lie
-abbrev pub IsBackedRun : Setup → List Line → Type 0
-IsBackedRun setup schedule = AllByRecursion (IsKeptBacked IsSpaceState) (worlds_of space_rules setup schedule)
+abbrev pub IsBackedRun : MachineKind → Setup → List Line → Type 0
+IsBackedRun kind setup schedule = AllByRecursion (IsKeptBacked (IsStateOf kind)) (worlds_of (rules kind) setup schedule)
 
 abbrev pub IsBackedCommand : Option Held → Result Command ℕ → Type 0
 IsBackedCommand told asked = OfCommand IsBackedRun told asked

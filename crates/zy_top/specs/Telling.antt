@@ -5,6 +5,7 @@ use Rattle.std.specs.List.{flat_map, range_with_len}
 use Rattle.zy_base.specs.Machine.{Rules}
 use Rattle.zy_chain.specs.Heads.{empty_head}
 use Rattle.zy_top_hosting.specs.Lines.{completion_line, is_fast, state_digest}
+use Rattle.zy_group.specs.declared.machine.MachineKind.{MachineKind}
 use Rattle.zy_report.specs.Lines.{agreed_line, refused_line, replica_line, summary_line}
 use Rattle.zy_table.specs.State.{State, stood_of}
 use Rattle.zy_world_law.specs.Safe.{agreed_mark}
@@ -15,15 +16,15 @@ use Rattle.zy_world_law.specs.declared.note.Note.TheVariants as notes
 -- ---- events
 
 -- what is written of the event with this number
-abbrev pub note_line : ℕ → Note → List ℕ
-note_line number notes.Quiet = []
-note_line number (notes.Done client done) = completion_line (Some number) client done
-note_line number (notes.Refused party cause) = refused_line number party cause
+abbrev pub note_line : MachineKind → ℕ → Note → List ℕ
+note_line kind number notes.Quiet = []
+note_line kind number (notes.Done client done) = completion_line kind (Some number) client done
+note_line kind number (notes.Refused party cause) = refused_line number party cause
 
 -- of events whose numbers begin with this one
-abbrev pub note_lines : ℕ → List Note → List ℕ
-note_lines number [] = []
-note_lines number (note ∷ more) = note_line number note ++ note_lines (number + 1) more
+abbrev pub note_lines : MachineKind → ℕ → List Note → List ℕ
+note_lines kind number [] = []
+note_lines kind number (note ∷ more) = note_line kind number note ++ note_lines kind (number + 1) more
 
 -- ---- in numbers
 

@@ -2,9 +2,10 @@
 use Rattle.std.specs.Prelude.{◌≡◌, ℕ, Bool, true, false, List, Option, IfSome, Result, Ok, Err, ⊤}
 use Rattle.std.specs.List.{AllByRecursion}
 use Rattle.zy_edge.specs.Files.{Held, content_of}
+use Rattle.zy_group.specs.declared.machine.MachineKind.{MachineKind}
 use Rattle.zy_schedule.specs.Reading.{schedule_of}
 use Rattle.zy_schedule.specs.declared.line.Line.{Line}
-use Rattle.zy_space.specs.Service.{space_rules}
+use Rattle.zy_top_words.specs.Machines.{rules}
 use Rattle.zy_top_words.specs.Words.{Command}
 use Rattle.zy_top_words.specs.declared.exit.Broken.TheVariants as broken
 use Rattle.zy_top_words.specs.declared.exit.Exit.{Exit}
@@ -15,8 +16,8 @@ use Rattle.zy_world_law.specs.Setup.{Setup}
 use Rattle.zy_world_law.specs.World.{start}
 
 -- where nobody lies by a line of its schedule, a run shows no forged signature
-abbrev pub IsUnforgedRun : Setup → List Line → Type 0
-IsUnforgedRun setup schedule = AllByRecursion IsQuiet schedule → IsUnforged (run space_rules schedule (start space_rules setup)).end
+abbrev pub IsUnforgedRun : MachineKind → Setup → List Line → Type 0
+IsUnforgedRun kind setup schedule = AllByRecursion IsQuiet schedule → IsUnforged (run (rules kind) schedule (start (rules kind) setup)).end
 
 abbrev pub tells_forged : Exit → Bool
 tells_forged (exits.Premise event broken.Forged) = true
@@ -29,6 +30,7 @@ IsTruthful told (Ok (Command.Replay group schedule)) exit =
 IsTruthful told (Ok (Command.Make number asks)) exit = tells_forged exit ≡ false
 IsTruthful told (Ok (Command.Calm f silent asks)) exit = tells_forged exit ≡ false
 IsTruthful told (Ok (Command.Space script)) exit = ⊤
+IsTruthful told (Ok (Command.Guard script)) exit = ⊤
 IsTruthful told (Ok (Command.Keys seed by height)) exit = ⊤
 IsTruthful told (Ok (Command.Node group secret id turns)) exit = ⊤
 IsTruthful told (Ok (Command.Ask group secret id turns op)) exit = ⊤

@@ -13,6 +13,7 @@ use Rattle.zy_space.specs.Service.{space_rules}
 use Rattle.zy_schedule.specs.Making.{made_lines}
 use Rattle.zy_schedule.specs.Reading.{schedule_of}
 use Rattle.zy_schedule.specs.declared.line.Line.{Line}
+use Rattle.zy_group.specs.declared.machine.MachineKind.{MachineKind}
 use Rattle.zy_group.specs.declared.replay.ReplayGroup.{ReplayGroup}
 use Rattle.zy_world_law.specs.Events as events
 use Rattle.zy_world_law.specs.Runs.{End, Run, run}
@@ -20,11 +21,13 @@ use Rattle.zy_world_law.specs.Setup.{Setup}
 use Rattle.zy_world_law.specs.World.{start}
 use Rattle.zy_world_law.specs.declared.note.Note.{Note}
 use Rattle.zy_top.specs.Group.{calm_schedule, calm_setup, group_of, made_setup, setup_of}
+use Rattle.zy_top.specs.GuardScript.{guard_verdict}
 use Rattle.zy_top.specs.Keys.{key_file}
 use Rattle.zy_top.specs.Telling.{agreed_of, end_lines, note_lines, summary_of}
 use Rattle.zy_top_hosting.specs.Files.{asker_start, node_start}
 use Rattle.zy_top_hosting.specs.Hosted.{files_verdict}
 use Rattle.zy_top_words.specs.Ends.{Verdict, limit}
+use Rattle.zy_top_words.specs.Machines.{rules}
 use Rattle.zy_top_words.specs.Words.{Command, command_of}
 use Rattle.zy_top_words.specs.declared.exit.Broken.{Broken}
 use Rattle.zy_top_words.specs.declared.exit.Broken.TheVariants as broken
@@ -53,22 +56,22 @@ what_broke (events.Broken.Forged party) = broken.Forged
 what_broke (events.Broken.Clash digest) = broken.Clash
 
 -- the report of a run, or what is written of the events before the one that isn't honest
-abbrev pub told_verdict : {S : Type 0} → Rules S → List Note → End S → Verdict
-told_verdict R notes (End.At w) = Verdict.Report (note_lines 1 notes ++ end_lines R w)
-told_verdict R notes (End.Stopped what) = Verdict.Broke (note_lines 1 notes) (exits.Premise (length notes + 1) (what_broke what))
+abbrev pub told_verdict : {S : Type 0} → MachineKind → Rules S → List Note → End S → Verdict
+told_verdict kind R notes (End.At w) = Verdict.Report (note_lines kind 1 notes ++ end_lines R w)
+told_verdict kind R notes (End.Stopped what) = Verdict.Broke (note_lines kind 1 notes) (exits.Premise (length notes + 1) (what_broke what))
 
-abbrev pub run_verdict : {S : Type 0} → Rules S → Run S → Verdict
-run_verdict R r = told_verdict R r.notes r.end
+abbrev pub run_verdict : {S : Type 0} → MachineKind → Rules S → Run S → Verdict
+run_verdict kind R r = told_verdict kind R r.notes r.end
 
--- a schedule runs from the start of its world
-abbrev pub schedule_verdict : Setup → Result (List Line) TextFault → Verdict
-schedule_verdict setup (Err fault) = Verdict.Refused (exits.Text fault.line fault.rule)
-schedule_verdict setup (Ok schedule) = run_verdict space_rules (run space_rules schedule (start space_rules setup))
+-- a schedule runs from the start of its world, whose replicas are of this machine
+abbrev pub schedule_verdict : MachineKind → Setup → Result (List Line) TextFault → Verdict
+schedule_verdict kind setup (Err fault) = Verdict.Refused (exits.Text fault.line fault.rule)
+schedule_verdict kind setup (Ok schedule) = run_verdict kind (rules kind) (run (rules kind) schedule (start (rules kind) setup))
 
 abbrev pub group_verdict : Result ReplayGroup ℕ → List ℕ → Verdict
 group_verdict (Err field) text = Verdict.Refused (exits.Group field)
 group_verdict (Ok group) text =
-    if nat_lt limit (length text) then Verdict.Refused exits.TooLong else schedule_verdict (setup_of group) (schedule_of text)
+    if nat_lt limit (length text) then Verdict.Refused exits.TooLong else schedule_verdict group.machine (setup_of group) (schedule_of text)
 
 -- the group is judged before the schedule is read
 abbrev pub replay_verdict : List ℕ → List ℕ → Verdict
@@ -98,12 +101,13 @@ calm_verdict f silent asks = sum_verdict asks (run space_rules (calm_schedule f 
 abbrev pub command_verdict : Held → Result Command ℕ → Verdict
 command_verdict files (Err word) = Verdict.Refused (exits.Usage word)
 command_verdict files (Ok (Command.Space script)) = space_verdict (content_of files script)
+command_verdict files (Ok (Command.Guard script)) = guard_verdict (content_of files script)
 command_verdict files (Ok (Command.Replay group schedule)) = replay_verdict (content_of files group) (content_of files schedule)
 command_verdict files (Ok (Command.Keys seed by height)) = Verdict.Report (key_file seed by height)
 command_verdict files (Ok (Command.Make number asks)) = make_verdict number asks
 command_verdict files (Ok (Command.Calm f silent asks)) = calm_verdict f silent asks
 command_verdict files (Ok (Command.Node group secret id turns)) = files_verdict (node_start id (content_of files group) (content_of files secret))
-command_verdict files (Ok (Command.Ask group secret id turns op)) = files_verdict (asker_start id (content_of files group) (content_of files secret))
+command_verdict files (Ok (Command.Ask group secret id turns op)) = files_verdict (asker_start id op (content_of files group) (content_of files secret))
 command_verdict files (Ok (Command.Serve group secret id turns journal)) = files_verdict (node_start id (content_of files group) (content_of files secret))
 
 -- words are judged first, then the files that they name, each before the next is read
@@ -114,6 +118,7 @@ verdict words files = command_verdict files (command_of words)
 abbrev pub own_verdict : Result Command ℕ → Option Verdict
 own_verdict (Err word) = Some (Verdict.Refused (exits.Usage word))
 own_verdict (Ok (Command.Space script)) = None
+own_verdict (Ok (Command.Guard script)) = None
 own_verdict (Ok (Command.Replay group schedule)) = None
 own_verdict (Ok (Command.Keys seed by height)) = Some (Verdict.Report (key_file seed by height))
 own_verdict (Ok (Command.Make number asks)) = Some (make_verdict number asks)

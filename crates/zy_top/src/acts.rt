@@ -35,6 +35,7 @@ pub fn act_of(alloc: Global, line: Line) -> Result<Act, Want>
 {
     match line {
         Line::Ask { client, op } => Ok(Act::Event(ask_event(alloc, client, op)?)),
+        Line::AskHex { client, op } => Ok(Act::Event(WorldEvent::Ask { client, op })),
         Line::Deliver { frame, to } => Ok(Act::Event(WorldEvent::Deliver { frame, to })),
         Line::Timer { party, kind } => Ok(Act::Event(WorldEvent::Timer { party, kind })),
         Line::Order {

@@ -5,16 +5,26 @@ ghost use Rattle.zy_top.specs.Replaying.{IsSetupRead};
 
 use std::alloc::Global;
 use zy_base::{ClientId, ReplicaId, Want};
-use zy_group::{ReplayGroup, read_replay_group};
+use zy_group::{MachineKind, ReplayGroup, read_replay_group};
 use zy_top_words::Exit;
 use zy_world_setup::Setup;
 
+/// What a replay begins with.
+#[derive(Drop)]
+pub struct Scene {
+    /// What its replicas replicate.
+    pub machine: MachineKind,
+    pub setup: Setup,
+}
+
 /// What the world of the group that a file's text tells of begins with.
-pub(crate) fn read_setup(alloc: Global, text: &[u8]) -> Result<Setup, Exit>
+pub(crate) fn read_scene(alloc: Global, text: &[u8]) -> Result<Scene, Exit>
     ensures { IsSetupRead (groups.group_of text.now) result }
 {
     let group = read_replay_group(alloc, text)?;
-    Ok(setup_of(alloc, group)?)
+    let machine = group.machine;
+    let setup = setup_of(alloc, group)?;
+    Ok(Scene { machine, setup })
 }
 
 fn setup_of(alloc: Global, group: ReplayGroup) -> Result<Setup, Want>

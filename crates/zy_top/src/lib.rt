@@ -5,6 +5,7 @@
 mod acts;
 mod calm;
 mod group;
+mod guard;
 mod keys;
 mod making;
 mod replayed;
@@ -16,6 +17,7 @@ mod tally;
 mod top;
 
 pub use acts::{Act, act_of};
+pub use group::Scene;
 pub use replays::{read_group, read_lines};
 pub use running::Stop;
 pub use tale::note_line;

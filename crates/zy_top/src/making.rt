@@ -18,7 +18,7 @@ use std::alloc::Global;
 use std::thread::Threads;
 use zy_base::Machine;
 use zy_edge::Sink;
-use zy_group::plain_counts;
+use zy_group::{MachineKind, plain_counts};
 use zy_lms::Height;
 use zy_ots::OtsType;
 use zy_schedule::{Line, make};
@@ -76,7 +76,7 @@ pub(crate) fn run_made<R: Threads + Sync, M: Machine + Send>(
     ensures { IsSummedUp (sum_verdict asks (run M.rules lines.items (start M.rules setup))) result }
 {
     let world = World::<M>::start(alloc, setup)?;
-    let mut tale = Tale::new(alloc);
+    let mut tale = Tale::new(alloc, MachineKind::Space);
     match run_lines(rt, alloc, world, lines, &mut tale) {
         Ok(world) => Ok(sum_up(alloc, asks, tale.tally, &world)?),
         Err(Stop::Broke(what)) => Err(Exit::Premise {

@@ -16,6 +16,7 @@ use std::alloc::Global;
 use std::thread::Threads;
 use zy_base::{Machine, Want};
 use zy_edge::Sink;
+use zy_group::MachineKind;
 use zy_schedule::Line;
 use zy_top_words::{Broken, Exit, write_all};
 use zy_world::World;
@@ -38,16 +39,17 @@ pub(crate) enum Replayed {
 pub(crate) fn replay<R: Threads + Sync, M: Machine + Send>(
     rt: &R,
     alloc: Global,
+    machine: MachineKind,
     setup: Setup,
     lines: Vec<Line>,
 ) -> Result<Replayed, Want>
     requires start { IsStart setup }
     requires said { All IsSaid lines.items }
     requires few { length lines.items ≤ limit }
-    ensures { IfOk result (λ replayed. verdict_in replayed ≡ run_verdict M.rules (run M.rules lines.items (start M.rules setup))) }
+    ensures { IfOk result (λ replayed. verdict_in replayed ≡ run_verdict machine M.rules (run M.rules lines.items (start M.rules setup))) }
 {
     let world = World::<M>::start(alloc, setup)?;
-    let mut tale = Tale::new(alloc);
+    let mut tale = Tale::new(alloc, machine);
     match run_lines(rt, alloc, world, lines, &mut tale) {
         Ok(world) => {
             let Tale { mut text, .. } = tale;

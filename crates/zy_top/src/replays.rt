@@ -7,19 +7,27 @@ ghost use Rattle.zy_schedule.specs.Texts.{IsSaid};
 ghost use Rattle.zy_world_setup.specs.Starting.{IsStart};
 ghost use Rattle.zy_top_words.specs.Calls.{IsReading, exit_of, stops_reading};
 ghost use Rattle.zy_top.specs.Group.{group_of};
-ghost use Rattle.zy_top.specs.Replaying.{IsBackedRun, IsBlamelessRun, IsGroupJudged, IsRunning, IsSafeRun, IsScheduleJudged, IsSetupOf, OfReplay};
+ghost use Rattle.zy_top.specs.Replaying.{IsBackedRun, IsBlamelessRun, IsGroupJudged, IsRunning, IsSafeRun, IsSafeRunOf, IsSceneOf, IsScheduleJudged, OfReplay};
 ghost use Rattle.zy_top_words.specs.Ends.{IsAnswer, IsWritten, is_read_fault, is_foreign, is_refusal, is_write_fault, limit};
 ghost use Rattle.zy_top.specs.Truthful.{IsUnforgedRun};
 ghost use Rattle.zy_top.specs.Verdict.{replay_verdict, run_verdict};
-ghost use Rattle.zy_space.specs.Service.{space_rules};
-ghost use Rattle.zy_world_law.specs.Runs.{run};
+ghost use Rattle.std.specs.List.{AllByRecursion};
+ghost use Rattle.zy_schedule.specs.declared.line.Line.{Line};
+ghost use Rattle.zy_top_words.specs.Machines.{rules};
+ghost use Rattle.zy_world_law.specs.Backed.{IsKeptBacked};
+ghost use Rattle.zy_world_law.specs.Blame.{IsBlameless};
+ghost use Rattle.zy_world_law.specs.Runs.{run, worlds_of};
+ghost use Rattle.zy_world_law.specs.Setup.{Setup};
 ghost use Rattle.zy_world_law.specs.World.{start};
 
-use crate::group::read_setup;
+use crate::group::{Scene, read_scene};
 use crate::replayed::{replay, write_replayed};
 use std::alloc::Global;
 use std::thread::Threads;
+use zy_base::Machine;
 use zy_edge::{Files, Sink};
+use zy_group::MachineKind;
+use zy_guard::Guard;
 use zy_schedule::{Line, read_schedule};
 use zy_space::Space;
 use zy_top_words::{Exit, read_file};
@@ -36,10 +44,21 @@ pub(crate) fn replays_are_safe()
     ensures backed { (group schedule : List ℕ) → OfReplay IsBackedRun group schedule }
     ensures unforged { (group schedule : List ℕ) → OfReplay IsUnforgedRun group schedule }
 {
-    runs_are_safe::<Space>();
-    no_correct_replica_is_blamed::<Space>();
-    what_is_kept_is_backed::<Space>();
-    no_run_is_forged::<Space>();
+    runs_of::<Space>();
+    runs_of::<Guard>();
+}
+
+/// The runs of one machine are so.
+fn runs_of<M: Machine>()
+    ensures safe { (setup : Setup) (schedule : List Line) → IsSetup setup → IsSafeRunOf M.rules setup schedule }
+    ensures blameless { (setup : Setup) (schedule : List Line) → IsSetup setup → AllByRecursion (IsBlameless M.rules) (worlds_of M.rules setup schedule) }
+    ensures backed { (setup : Setup) (schedule : List Line) → IsSetup setup → AllByRecursion (IsKeptBacked M.IsState) (worlds_of M.rules setup schedule) }
+    ensures unforged { (setup : Setup) (schedule : List Line) → IsSetup setup → AllByRecursion IsQuiet schedule → IsUnforged (run M.rules schedule (start M.rules setup)).end }
+{
+    runs_are_safe::<M>();
+    no_correct_replica_is_blamed::<M>();
+    what_is_kept_is_backed::<M>();
+    no_run_is_forged::<M>();
 }
 
 /// Runs the schedule in the world of the group.
@@ -60,23 +79,23 @@ pub(crate) fn run_replay<R: Threads + Sync, F: Files, S: Sink>(
     ensures write_faults { IsCounted (is_write_fault (exit_of result)) (S.faults out.old) (S.faults out.new) }
     ensures held { F.held files.new ≡ F.held files.old }
 {
-    let setup = read_group(alloc, group, files)?;
+    let scene = read_group(alloc, group, files)?;
     let lines = read_lines(alloc, schedule, files)?;
-    run_told(rt, alloc, setup, lines, out)
+    run_scene(rt, alloc, scene, lines, out)
 }
 
-/// What the world begins with of the group in the file with this name. `Group` where a field fails, `TooLong` where the file has more
+/// What a replay of the group in the file with this name begins with. `Group` where a field fails, `TooLong` where the file has more
 /// than 16,777,216 bytes.
-pub fn read_group<F: Files>(alloc: Global, group: &str, files: &mut F) -> Result<Setup, Exit>
+pub fn read_group<F: Files>(alloc: Global, group: &str, files: &mut F) -> Result<Scene, Exit>
     ensures told { IfSome (F.held files.old) (λ held. IsGroupJudged (content_of held group.now) result) }
-    ensures spelled { IfOk result (λ setup. IfSome (F.held files.old) (λ held. IsSetupOf (group_of (content_of held group.now)) setup)) }
-    ensures start { IfOk result IsStart }
+    ensures spelled { IfOk result (λ scene. IfSome (F.held files.old) (λ held. IsSceneOf (group_of (content_of held group.now)) scene)) }
+    ensures start { IfOk result (λ scene. IsStart scene.setup) }
     ensures exit { IsReading result }
     ensures count { IsCounted (stops_reading result) (F.faults files.old) (F.faults files.new) }
     ensures held { F.held files.new ≡ F.held files.old }
 {
     let text = read_file(alloc, files, group)?;
-    read_setup(alloc, &text)
+    read_scene(alloc, &text)
 }
 
 /// The schedule in the file with this name. `Text` at the first line that can't be read, `TooLong` as for a group.
@@ -94,9 +113,33 @@ pub fn read_lines<F: Files>(alloc: Global, schedule: &str, files: &mut F) -> Res
 }
 
 /// Runs what was read, and writes what is told of it.
-fn run_told<R: Threads + Sync, S: Sink>(
+fn run_scene<R: Threads + Sync, S: Sink>(
     rt: &R,
     alloc: Global,
+    scene: Scene,
+    lines: Vec<Line>,
+    out: &mut S,
+) -> Result<(), Exit>
+    requires start { IsStart scene.setup }
+    requires said { All IsSaid lines.items }
+    requires few { length lines.items ≤ limit }
+    ensures answer { IsAnswer (run_verdict scene.machine (rules scene.machine) (run (rules scene.machine) lines.items (start (rules scene.machine) scene.setup))) (exit_of result) }
+    ensures written { IsWritten (run_verdict scene.machine (rules scene.machine) (run (rules scene.machine) lines.items (start (rules scene.machine) scene.setup))) (exit_of result) (S.taken out.old) (S.taken out.new) }
+    ensures exit { IsRunning result }
+    ensures count { IsCounted (is_write_fault (exit_of result)) (S.faults out.old) (S.faults out.new) }
+{
+    let Scene { machine, setup } = scene;
+    match machine {
+        MachineKind::Space => run_told::<R, Space, S>(rt, alloc, machine, setup, lines, out),
+        MachineKind::Guard => run_told::<R, Guard, S>(rt, alloc, machine, setup, lines, out),
+    }
+}
+
+/// Runs it in a world of this machine.
+fn run_told<R: Threads + Sync, M: Machine + Send, S: Sink>(
+    rt: &R,
+    alloc: Global,
+    machine: MachineKind,
     setup: Setup,
     lines: Vec<Line>,
     out: &mut S,
@@ -104,11 +147,11 @@ fn run_told<R: Threads + Sync, S: Sink>(
     requires start { IsStart setup }
     requires said { All IsSaid lines.items }
     requires few { length lines.items ≤ limit }
-    ensures answer { IsAnswer (run_verdict space_rules (run space_rules lines.items (start space_rules setup))) (exit_of result) }
-    ensures written { IsWritten (run_verdict space_rules (run space_rules lines.items (start space_rules setup))) (exit_of result) (S.taken out.old) (S.taken out.new) }
+    ensures answer { IsAnswer (run_verdict machine M.rules (run M.rules lines.items (start M.rules setup))) (exit_of result) }
+    ensures written { IsWritten (run_verdict machine M.rules (run M.rules lines.items (start M.rules setup))) (exit_of result) (S.taken out.old) (S.taken out.new) }
     ensures exit { IsRunning result }
     ensures count { IsCounted (is_write_fault (exit_of result)) (S.faults out.old) (S.faults out.new) }
 {
-    let replayed = replay::<R, Space>(rt, alloc, setup, lines)?;
+    let replayed = replay::<R, M>(rt, alloc, machine, setup, lines)?;
     write_replayed(replayed, out)
 }

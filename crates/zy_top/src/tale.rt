@@ -9,6 +9,7 @@ ghost use Rattle.zy_world_law.specs.World.{World as Whole};
 use crate::tally::Tally;
 use std::alloc::Global;
 use zy_base::{Bytes, Digest, Items, Machine, ReplicaId, Want};
+use zy_group::MachineKind;
 use zy_report::{agreed_line, refused_line, replica_line, summary_line};
 use zy_top_hosting::completion_line;
 use zy_world::{Replica, World};
@@ -17,13 +18,15 @@ use zy_world_law::Note;
 /// The events in numbers, and a line for each that `replay` writes of.
 #[derive(Drop)]
 pub(crate) struct Tale {
+    pub(crate) machine: MachineKind,
     pub(crate) tally: Tally,
     pub(crate) text: Vec<u8>,
 }
 
 impl Tale {
     /// Nothing.
-    pub(crate) fn new(alloc: Global) -> Tale
+    pub(crate) fn new(alloc: Global, machine: MachineKind) -> Tale
+        ensures machine { result.machine ≡ machine }
         ensures events { result.tally.events ≡ 0 }
         ensures fast { result.tally.fast ≡ 0 }
         ensures slow { result.tally.slow ≡ 0 }
@@ -31,6 +34,7 @@ impl Tale {
         ensures text { result.text.items ≡ [] }
     {
         Tale {
+            machine,
             tally: Tally::new(),
             text: Vec::new(alloc),
         }
@@ -42,7 +46,7 @@ impl Tale {
         ensures told { OnOk result (Adds self.old self.new (note.now ∷ [])) }
         ensures count { self.new.tally.events ≤ self.old.tally.events + 1 }
     {
-        let line = note_line(alloc, self.tally.events + 1, note)?;
+        let line = note_line(alloc, self.machine, self.tally.events + 1, note)?;
         self.text.extend_from_slice(line.as_slice())?;
         self.tally = self.tally.with(note);
         Ok(())
@@ -62,12 +66,17 @@ impl Tale {
 }
 
 /// What `replay` writes of the event with this number.
-pub fn note_line(alloc: Global, number: u64, note: &Note) -> Result<Bytes, Want>
-    ensures { IfOk result (λ line. line ≡ telling.note_line number note.now) }
+pub fn note_line(
+    alloc: Global,
+    machine: MachineKind,
+    number: u64,
+    note: &Note,
+) -> Result<Bytes, Want>
+    ensures { IfOk result (λ line. line ≡ telling.note_line machine number note.now) }
 {
     match note {
         Note::Quiet => Ok(Bytes::from(Vec::new(alloc))),
-        Note::Done(client, done) => completion_line(alloc, Some(number), *client, done),
+        Note::Done(client, done) => completion_line(alloc, machine, Some(number), *client, done),
         Note::Refused(party, cause) => refused_line(alloc, number, *party, cause),
     }
 }

@@ -1,11 +1,12 @@
-ghost use Rattle.std.specs.Prelude.{◌≡◌, ◌↔◌, ◌⊎◌, ◌<◌, ℕ, false, Err, IfSome, IsTrue};
+ghost use Rattle.std.specs.Prelude.{◌≡◌, ◌⊎◌, ℕ, false, Err, IfSome, IsTrue};
 ghost use Rattle.zy_edge.specs.Faults.{IsCounted, Rose};
 ghost use Rattle.zy_edge.specs.Files.{content_of};
 ghost use Rattle.zy_top_words.specs.Calls.{exit_of, IsSent, stops_writing};
 ghost use Rattle.zy_top_words.specs.Ends.{IsAnswer, IsOwnAnswer, IsReport, IsWritten, is_disk_fault, is_foreign, is_link_fault, is_read_fault, is_refusal, is_write_fault};
 ghost use Rattle.zy_top.specs.Calm.{IsServedCommand};
-ghost use Rattle.zy_top.specs.Hosting.{AreBound, AreSpent, EndsItself, IsHosted, is_hosted};
+ghost use Rattle.zy_top.specs.Hosting.{AreBound, AreSpent, EndsItself, IsHosted, IsNoOperationOf, is_hosted};
 ghost use Rattle.zy_top.specs.Keeping.{GoesOnItself, IsKeptCommand};
+ghost use Rattle.zy_top.specs.GuardScript.{guard_verdict};
 ghost use Rattle.zy_top.specs.Verdict.{own_verdict, space_verdict, verdict};
 ghost use Rattle.zy_top.specs.Keys.{key_file};
 ghost use Rattle.zy_top.specs.Replaying.{IsBackedCommand, IsBlamelessCommand, IsSafeCommand};
@@ -13,6 +14,7 @@ ghost use Rattle.zy_top.specs.Truthful.{IsTruthful};
 ghost use Rattle.zy_top_words.specs.Words.{command_of, texts};
 
 use crate::calm::{calm_schedules_are_served, run_calm};
+use crate::guard::{GuardAsk, run_guard_script};
 use crate::keys::key_file;
 use crate::making::{made_runs_are_safe, run_make};
 use crate::replays::{replays_are_safe, run_replay};
@@ -23,15 +25,16 @@ use zy_base::Party;
 use zy_edge::{Clock, Files, Link, Sink};
 use zy_journal::Disk;
 use zy_lms::Height;
-use zy_schedule::read_script;
+use zy_schedule::{read_script, read_text};
 use zy_top_hosting::{run_ask, run_node, run_serve};
-use zy_top_words::{Command, Exit, OpFault, command_of, op_read_alone, read_file, write_all};
+use zy_top_words::{Command, Exit, command_of, read_file, write_all};
 
 /// Runs the command that the words ask for. Words are judged first, then the file that they name, whole, and
 /// nothing is written before.
 ///
 /// `space SCRIPT` runs the operations of a script, one on a line, on one empty space, and writes the text of each
-/// reply on a line of its own. `replay GROUP SCHEDULE` runs a schedule in the world of a group, and writes a line for each
+/// reply on a line of its own. `guard SCRIPT` does so on an empty guarded space, where each line begins with the client that asks.
+/// `replay GROUP SCHEDULE` runs a schedule in the world of a group, and writes a line for each
 /// completion and each refusal, then where each replica stands, then the agreed list. `keys SEED PARTY HEIGHT` writes the secret file of a party's key, made from a seed of
 /// 64 hexadecimal digits, with its public key. `make NUMBER ASKS` runs the schedule of so many asks that the number makes in a
 /// world of four replicas, and writes what it came to in numbers and the agreed list. `calm F SILENT ASKS` does so for a schedule of so
@@ -54,11 +57,10 @@ pub fn zyzzyva<R: Threads + Sync, F: Files, S: Sink, L: Link, C: Clock, D: Disk>
     clock: &mut C,
     disk: &mut D,
 ) -> Exit
-    // Words that are wrong are refused by the number of the first such, and by nothing else. From the sixth word on an
-    // operation has to be read for that, so that memory may be wanted.
-    ensures usage { (word : ℕ) → word < 6 → (result ≡ Exit.Usage word) ↔ (command_of (texts words.now) ≡ Err word) }
-    ensures late_usage { (word : ℕ) → ((result ≡ Exit.Usage word) → (command_of (texts words.now) ≡ Err word))
-        × ((command_of (texts words.now) ≡ Err word) → (result ≡ Exit.Usage word) ⊎ (result ≡ Exit.Want)) }
+    // Words that are wrong are refused by the number of the first such. No other words are, but for the sixth of an ask that is no
+    // operation: which it is depends on its group's machine, so that it is judged behind the group's file.
+    ensures usage { (word : ℕ) → (command_of (texts words.now) ≡ Err word) → (result ≡ Exit.Usage word) }
+    ensures only_usage { (word : ℕ) → (result ≡ Exit.Usage word) → (command_of (texts words.now) ≡ Err word) ⊎ IsNoOperationOf (command_of (texts words.now)) (Exit.Usage word) }
 
     // A command that names no file touches none, and comes to what its words alone say, whatever files there are.
     ensures own { IfSome (own_verdict (command_of (texts words.now))) (λ own. (files.new ≡ files.old)
@@ -149,6 +151,10 @@ pub fn zyzzyva<R: Threads + Sync, F: Files, S: Sink, L: Link, C: Clock, D: Disk>
             Ok(()) => Exit::Done,
             Err(exit) => exit,
         },
+        Ok(Command::Guard(script)) => match run_guard(alloc, script, files, out) {
+            Ok(()) => Exit::Done,
+            Err(exit) => exit,
+        },
         Ok(Command::Replay { group, schedule }) => {
             match run_replay(rt, alloc, group, schedule, files, out) {
                 Ok(()) => Exit::Done,
@@ -182,15 +188,10 @@ pub fn zyzzyva<R: Threads + Sync, F: Files, S: Sink, L: Link, C: Clock, D: Disk>
                 id,
                 turns,
                 op,
-                others,
             },
-        ) => match op_read_alone(alloc, op, others) {
-            Ok(op) => run_ask(
-                alloc, group, secret, id, turns, &op, files, out, link, clock,
-            ),
-            Err(OpFault::Word(word)) => Exit::Usage(word),
-            Err(OpFault::Want) => Exit::Want,
-        },
+        ) => run_ask(
+            alloc, group, secret, id, turns, op, files, out, link, clock,
+        ),
         Ok(
             Command::Serve {
                 group,
@@ -240,4 +241,25 @@ fn run_space<F: Files, S: Sink>(
     let text = read_file(alloc, files, script)?;
     let ops = read_script(alloc, &text)?;
     run_script(alloc, &ops, out)
+}
+
+/// Runs the script of the guarded space in the file with this name.
+fn run_guard<F: Files, S: Sink>(
+    alloc: Global,
+    script: &str,
+    files: &mut F,
+    out: &mut S,
+) -> Result<(), Exit>
+    ensures answer { IfSome (F.held files.old) (λ held. IsAnswer (guard_verdict (content_of held script.now)) (exit_of result)) }
+    ensures written { IfSome (F.held files.old) (λ held.
+        IsWritten (guard_verdict (content_of held script.now)) (exit_of result) (S.taken out.old) (S.taken out.new)) }
+    ensures judged { IsTrue (is_foreign (exit_of result)) → ⊥ }
+    ensures refused { IsTrue (is_refusal (exit_of result)) → out.new ≡ out.old }
+    ensures read_faults { IsCounted (is_read_fault (exit_of result)) (F.faults files.old) (F.faults files.new) }
+    ensures write_faults { IsCounted (is_write_fault (exit_of result)) (S.faults out.old) (S.faults out.new) }
+    ensures held { F.held files.new ≡ F.held files.old }
+{
+    let text = read_file(alloc, files, script)?;
+    let asks = read_text::<GuardAsk>(alloc, &text)?;
+    run_guard_script(alloc, &asks, out)
 }

@@ -7,6 +7,7 @@ use Rattle.zy_base.specs.declared.cause.Cause.{Cause}
 use Rattle.zy_base.specs.declared.cause.Cause.TheVariants as causes
 use Rattle.zy_base.specs.declared.ids.ClientId.{ClientId}
 use Rattle.zy_edge.specs.Link.{Mail, StaysAsTold}
+use Rattle.zy_group.specs.declared.machine.MachineKind.{MachineKind}
 use Rattle.zy_node.specs.Asking.{AsksAs, IsAsked as IsAskedFor, IsCutAsking as IsCutRequest, refusal, refusal_of}
 use Rattle.zy_node.specs.Told.{Outside}
 use Rattle.zy_node.specs.declared.asker.Asked.{Asked}
@@ -50,23 +51,23 @@ module _ (start : ClientState) (op : List ℕ) (most : ℕ) (a b : Option Mail) 
   end_from (asked.Spent last) may asks = (asks.0, asked_from (Ok (asked.Spent last)) asks.1)
   end_from (asked.Refused same cause) may asks = absurd (may_ask start op cause may asks.0)
 
-  asking_at : (id : ClientId) (exit : Exit) (old new : Option (List ℕ)) → MayAsk start → IsAsking id start op most exit (at b receives moments) to old new → IsAsking id start op most exit (at a receives moments) to old new
-  asking_at id exit old new may (inl asks) = inl (record { end = asks.end; asks = end_from asks.end may asks.asks; answer = asks.answer; written = asks.written })
-  asking_at id exit old new may (inr cut) = inr (record { cut = cut.cut; fault = cut.fault; run = runs cut.run; written = cut.written })
+  asking_at : (kind : MachineKind) (id : ClientId) (exit : Exit) (old new : Option (List ℕ)) → MayAsk start → IsAsking kind id start op most exit (at b receives moments) to old new → IsAsking kind id start op most exit (at a receives moments) to old new
+  asking_at kind id exit old new may (inl asks) = inl (record { end = asks.end; asks = end_from asks.end may asks.asks; answer = asks.answer; written = asks.written })
+  asking_at kind id exit old new may (inr cut) = inr (record { cut = cut.cut; fault = cut.fault; run = runs cut.run; written = cut.written })
     where
       runs : IsIdle (at b receives moments) to ⊎ AsksAs start op most (Err cut.fault) (at b receives moments) to → IsIdle (at a receives moments) to ⊎ AsksAs start op most (Err cut.fault) (at a receives moments) to
       runs (inl idle) = inl (idle_from a b receives moments to bound idle)
       runs (inr asks) = inr (fault_from cut.fault asks)
 
-pub asking_from : (id : ClientId) (start : ClientState) (op : List ℕ) (turns : ℕ) (exit : Exit) (a b : Option Mail) (r s : ℕ) (moments : Option (List ℕ)) (to : Outside) (old new : Option (List ℕ))
-    → StaysAsTold a b → s ≡ r → MayAsk start → IsAsking id start op turns exit (at b s moments) to old new → IsAsking id start op turns exit (at a r moments) to old new
-asking_from id start op turns exit a b r s moments to old new bound same may asking =
-    asking_at start op turns a b r moments to bound id exit old new may (subst (λ (n : ℕ). IsAsking id start op turns exit (at b n moments) to old new) same asking)
+pub asking_from : (kind : MachineKind) (id : ClientId) (start : ClientState) (op : List ℕ) (turns : ℕ) (exit : Exit) (a b : Option Mail) (r s : ℕ) (moments : Option (List ℕ)) (to : Outside) (old new : Option (List ℕ))
+    → StaysAsTold a b → s ≡ r → MayAsk start → IsAsking kind id start op turns exit (at b s moments) to old new → IsAsking kind id start op turns exit (at a r moments) to old new
+asking_from kind id start op turns exit a b r s moments to old new bound same may asking =
+    asking_at start op turns a b r moments to bound kind id exit old new may (subst (λ (n : ℕ). IsAsking kind id start op turns exit (at b n moments) to old new) same asking)
 
 -- it was told of the request
-pub told_asking : (id : ClientId) (start : ClientState) (op : List ℕ) (turns many : ℕ) (exit : Exit) (from to : Outside) (old new : Option (List ℕ)) (before after : ℕ) (end : Asked)
-    → many ≡ turns → AsksAs start op many (Ok end) from to → IsTelling (ask_verdict id end) exit old new before after → IsAsking id start op turns exit from to old new
-told_asking id start op turns many exit from to old new before after end so asks telling = inl (record {
+pub told_asking : (kind : MachineKind) (id : ClientId) (start : ClientState) (op : List ℕ) (turns many : ℕ) (exit : Exit) (from to : Outside) (old new : Option (List ℕ)) (before after : ℕ) (end : Asked)
+    → many ≡ turns → AsksAs start op many (Ok end) from to → IsTelling (ask_verdict kind id end) exit old new before after → IsAsking kind id start op turns exit from to old new
+told_asking kind id start op turns many exit from to old new before after end so asks telling = inl (record {
   end = end;
   asks = subst (λ (n : ℕ). AsksAs start op n (Ok end) from to) so asks;
   answer = telling.answer;
@@ -74,9 +75,9 @@ told_asking id start op turns many exit from to old new before after end so asks
 })
 
 -- it was cut off
-pub cut_asking : (id : ClientId) (start : ClientState) (op : List ℕ) (turns many : ℕ) (exit : Exit) (from to : Outside) (taken : Option (List ℕ)) (fault : AskFault)
-    → IsTrue (is_cut exit) → many ≡ turns → AsksAs start op many (Err fault) from to → IsAsking id start op turns exit from to taken taken
-cut_asking id start op turns many exit from to taken fault cut so asks = inr (record {
+pub cut_asking : (kind : MachineKind) (id : ClientId) (start : ClientState) (op : List ℕ) (turns many : ℕ) (exit : Exit) (from to : Outside) (taken : Option (List ℕ)) (fault : AskFault)
+    → IsTrue (is_cut exit) → many ≡ turns → AsksAs start op many (Err fault) from to → IsAsking kind id start op turns exit from to taken taken
+cut_asking kind id start op turns many exit from to taken fault cut so asks = inr (record {
   cut = cut;
   fault = fault;
   run = inr (subst (λ (n : ℕ). AsksAs start op n (Err fault) from to) so asks);

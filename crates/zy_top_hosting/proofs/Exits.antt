@@ -1,5 +1,5 @@
 -- How the command ends where its files or its journal are refused, and whom its address is of.
-use Rattle.std.proofs.Common.{◌≡◌, inl, inr, ℕ, false, List, Option, Some, None, IfSome, Result, Ok, Err, refl, subst}
+use Rattle.std.proofs.Common.{◌≡◌, inl, inr, ℕ, false, List, Option, Some, None, IfSome, Result, Ok, Err, refl, sym, subst}
 use Rattle.std.specs.Prelude.{IsTrue}
 use Rattle.std.proofs.KnownBytes.{Keeps-refl}
 use Rattle.zy_base.specs.declared.ids.Digest.{Digest}
@@ -12,8 +12,10 @@ use Rattle.zy_top_hosting.specs.Recovered.{IsNotGoneOn, is_stopped}
 use Rattle.zy_top_hosting.specs.Serving.{IsKeptBound, IsServeRun, OfJournal, Serves, is_kept_hosting, is_kept_turning}
 use Rattle.zy_top_hosting.proofs.Bound.{bound_as}
 use Rattle.zy_top_hosting.specs.Calls.{IsJudged}
-use Rattle.zy_top_hosting.specs.Files.{Replica, Seat}
-use Rattle.zy_top_hosting.specs.Hosted.{IsBoundTo, Surroundings, TookAll, files_verdict}
+use Rattle.zy_group.specs.declared.machine.MachineKind.{MachineKind}
+use Rattle.zy_top_words.specs.Machines.{rules}
+use Rattle.zy_top_hosting.specs.declared.seat.NodeSeat.{NodeSeat}
+use Rattle.zy_top_hosting.specs.Hosted.{IsBoundTo, IsNodeRun, IsStarted, Surroundings, TookAll, files_verdict}
 use Rattle.zy_top_words.specs.Calls.{is_reading}
 use Rattle.zy_top_words.specs.Ends.{IsAnswer, Verdict, is_link_fault, is_read_fault, is_usage, is_write_fault}
 use Rattle.zy_top_words.specs.declared.exit.Exit.{Exit}
@@ -117,7 +119,7 @@ answers_hosted exits.NotJournal = tt
 answers_hosted (exits.Damaged gate) = tt
 answers_hosted exits.JournalFull = tt
 
-pub answer_as : {H : Type 0} (told : Option H) (start : H → Result (Seat Replica) Exit) (seat : Seat Replica) (exit : Exit)
+pub answer_as : {H : Type 0} (told : Option H) (start : H → Result NodeSeat Exit) (seat : NodeSeat) (exit : Exit)
     → IfSome told (λ held. start held ≡ Ok seat) → IfSome told (λ held. IsAnswer (files_verdict (start held)) exit)
 answer_as None start seat exit is = tt
 answer_as (Some held) start seat exit is = rw is (answers_hosted exit)
@@ -127,7 +129,7 @@ stops_as identity None exit of = tt
 stops_as identity (Some file) exit of = λ events stands. stopped_turning exit (of events stands)
 
 -- the files were in order
-pub started_as : {H : Type 0} (told : Option H) (start : H → Result (Seat Replica) Exit) (identity : H → Digest) (contents : Option (List ℕ)) (own : Digest) (exit : Exit)
+pub started_as : {H : Type 0} (told : Option H) (start : H → Result NodeSeat Exit) (identity : H → Digest) (contents : Option (List ℕ)) (own : Digest) (exit : Exit)
     → IfSome told (λ held. own ≡ identity held) → OfJournal own contents (IsTrue (is_kept_turning exit)) → IfSome told (λ held. files_verdict (start held) ≡ Verdict.Hosted → OfJournal (identity held) contents (IsTrue (is_kept_hosting exit)))
 started_as None start identity contents own exit is of = tt
 started_as (Some held) start identity contents own exit is of = λ hosted. subst (λ (d : Digest). OfJournal d contents (IsTrue (is_kept_hosting exit))) is (widened contents of)
@@ -176,12 +178,12 @@ pub of_any : (identity : Digest) (contents : Option (List ℕ)) (P : Type 0) →
 of_any identity None P holds = tt
 of_any identity (Some file) P holds = λ events stands. holds
 
-unread_hosts : (read : Result (Seat Replica) Exit) (exit : Exit) → IsTrue (is_reading exit) → IsJudged read (Err exit) → files_verdict read ≡ Verdict.Hosted → IsTrue (is_kept_hosting exit)
+unread_hosts : (read : Result NodeSeat Exit) (exit : Exit) → IsTrue (is_reading exit) → IsJudged read (Err exit) → files_verdict read ≡ Verdict.Hosted → IsTrue (is_kept_hosting exit)
 unread_hosts read exits.Want is judged hosted = refl
 unread_hosts read exits.ReadFault is judged hosted = refl
-unread_hosts read (exits.Text line rule) is judged hosted = (let refused : Verdict.Refused (exits.Text line rule) ≡ Verdict.Hosted = subst (λ (r : Result (Seat Replica) Exit). files_verdict r ≡ Verdict.Hosted) judged hosted in cc)
-unread_hosts read (exits.Group field) is judged hosted = (let refused : Verdict.Refused (exits.Group field) ≡ Verdict.Hosted = subst (λ (r : Result (Seat Replica) Exit). files_verdict r ≡ Verdict.Hosted) judged hosted in cc)
-unread_hosts read exits.TooLong is judged hosted = (let refused : Verdict.Refused exits.TooLong ≡ Verdict.Hosted = subst (λ (r : Result (Seat Replica) Exit). files_verdict r ≡ Verdict.Hosted) judged hosted in cc)
+unread_hosts read (exits.Text line rule) is judged hosted = (let refused : Verdict.Refused (exits.Text line rule) ≡ Verdict.Hosted = subst (λ (r : Result NodeSeat Exit). files_verdict r ≡ Verdict.Hosted) judged hosted in cc)
+unread_hosts read (exits.Group field) is judged hosted = (let refused : Verdict.Refused (exits.Group field) ≡ Verdict.Hosted = subst (λ (r : Result NodeSeat Exit). files_verdict r ≡ Verdict.Hosted) judged hosted in cc)
+unread_hosts read exits.TooLong is judged hosted = (let refused : Verdict.Refused exits.TooLong ≡ Verdict.Hosted = subst (λ (r : Result NodeSeat Exit). files_verdict r ≡ Verdict.Hosted) judged hosted in cc)
 unread_hosts read exits.Done is judged hosted = absurd cc
 unread_hosts read (exits.Usage word) is judged hosted = absurd cc
 unread_hosts read exits.WriteFault is judged hosted = absurd cc
@@ -193,13 +195,13 @@ unread_hosts read exits.NotJournal is judged hosted = absurd cc
 unread_hosts read (exits.Damaged gate) is judged hosted = absurd cc
 unread_hosts read exits.JournalFull is judged hosted = absurd cc
 
-pub unread_started : {H : Type 0} (told : Option H) (start : H → Result (Seat Replica) Exit) (identity : H → Digest) (contents : Option (List ℕ)) (exit : Exit) → IsTrue (is_reading exit)
+pub unread_started : {H : Type 0} (told : Option H) (start : H → Result NodeSeat Exit) (identity : H → Digest) (contents : Option (List ℕ)) (exit : Exit) → IsTrue (is_reading exit)
     → IfSome told (λ held. IsJudged (start held) (Err exit)) → IfSome told (λ held. files_verdict (start held) ≡ Verdict.Hosted → OfJournal (identity held) contents (IsTrue (is_kept_hosting exit)))
 unread_started None start identity contents exit is judged = tt
 unread_started (Some held) start identity contents exit is judged = λ hosted. of_any (identity held) contents (IsTrue (is_kept_hosting exit)) (unread_hosts (start held) exit is judged hosted)
 
 module _ {D : Type 0} (contents : D → Option (List ℕ)) (may_leave : D → List ℕ → Type 0) (moment : D → ℕ) (left_since : D → ℕ → List ℕ → Type 0) where
-  not_served : (identity : Digest) (id : ReplicaId) (read : Result (Seat Replica) Exit) (turns : ℕ) (exit : Exit) (outside : Surroundings) (taken : Option (List ℕ)) (disk : D) → IsTrue (is_reading exit) → IsJudged read (Err exit)
+  not_served : (identity : Digest) (id : ReplicaId) (read : Result NodeSeat Exit) (turns : ℕ) (exit : Exit) (outside : Surroundings) (taken : Option (List ℕ)) (disk : D) → IsTrue (is_reading exit) → IsJudged read (Err exit)
       → IsServeRun contents may_leave moment left_since identity id read turns exit outside outside taken taken disk disk
   not_served identity id (Err refusal) turns exit outside taken disk is judged = (refl, refl)
   not_served identity id (Ok seat) turns exits.Want outside taken disk is judged = inl (record { unread = refl; outside = refl; written = Keeps-refl taken }, refl)
@@ -218,14 +220,22 @@ module _ {D : Type 0} (contents : D → Option (List ℕ)) (may_leave : D → Li
   not_served identity id (Ok seat) turns (exits.Damaged gate) outside taken disk is judged = absurd cc
   not_served identity id (Ok seat) turns exits.JournalFull outside taken disk is judged = absurd cc
 
-  pub unread_served : {H : Type 0} (told : Option H) (start : H → Result (Seat Replica) Exit) (identity : H → Digest) (id : ReplicaId) (turns : ℕ) (exit : Exit) (outside : Surroundings) (taken : Option (List ℕ)) (disk : D) → IsTrue (is_reading exit)
+  pub unread_served : {H : Type 0} (told : Option H) (start : H → Result NodeSeat Exit) (identity : H → Digest) (id : ReplicaId) (turns : ℕ) (exit : Exit) (outside : Surroundings) (taken : Option (List ℕ)) (disk : D) → IsTrue (is_reading exit)
       → IfSome told (λ held. IsJudged (start held) (Err exit)) → IfSome told (λ held. IsServeRun contents may_leave moment left_since (identity held) id (start held) turns exit outside outside taken taken disk disk)
   unread_served None start identity id turns exit outside taken disk is judged = tt
   unread_served (Some held) start identity id turns exit outside taken disk is judged = not_served (identity held) id (start held) turns exit outside taken disk is judged
 
-  pub served_as : {H : Type 0} (told : Option H) (start : H → Result (Seat Replica) Exit) (identity : H → Digest) (own : Digest) (id : ReplicaId) (seat : Seat Replica) (turns : ℕ) (exit : Exit) (from to : Surroundings) (before now : Option (List ℕ)) (old new : D)
-      → IfSome told (λ held. start held ≡ Ok seat) → IfSome told (λ held. own ≡ identity held) → Serves contents may_leave moment left_since own id seat turns exit from to before now old new
+  pub served_as : {H : Type 0} (told : Option H) (start : H → Result NodeSeat Exit) (identity : H → Digest) (own : Digest) (id : ReplicaId) (seat : NodeSeat) (kind : MachineKind) (turns : ℕ) (exit : Exit) (from to : Surroundings) (before now : Option (List ℕ)) (old new : D)
+      → seat.group.members.machine ≡ kind → IfSome told (λ held. start held ≡ Ok seat) → IfSome told (λ held. own ≡ identity held) → Serves (rules kind) contents may_leave moment left_since own id seat turns exit from to before now old new
       → IfSome told (λ held. IsServeRun contents may_leave moment left_since (identity held) id (start held) turns exit from to before now old new)
-  served_as None start identity own id seat turns exit from to before now old new is same serves = tt
-  served_as (Some held) start identity own id seat turns exit from to before now old new is same serves =
-      rw is (inr (subst (λ (d : Digest). Serves contents may_leave moment left_since d id seat turns exit from to before now old new) same serves))
+  served_as None start identity own id seat kind turns exit from to before now old new of is same serves = tt
+  served_as (Some held) start identity own id seat kind turns exit from to before now old new of is same serves =
+      rw is (subst (λ (d : Digest). Serves (rules seat.group.members.machine) contents may_leave moment left_since d id seat turns exit from to before now old new) same
+      (subst (λ (k : MachineKind). Serves (rules k) contents may_leave moment left_since own id seat turns exit from to before now old new) (sym of) serves))
+
+-- the same of a node without a journal
+pub node_ran : {H : Type 0} (told : Option H) (start : H → Result NodeSeat Exit) (id : ReplicaId) (seat : NodeSeat) (kind : MachineKind) (turns : ℕ) (exit : Exit) (from to : Surroundings) (before now : Option (List ℕ))
+    → seat.group.members.machine ≡ kind → IfSome told (λ held. start held ≡ Ok seat) → IsStarted (rules kind) id seat turns exit from to before now → IfSome told (λ held. IsNodeRun id (start held) turns exit from to before now)
+node_ran None start id seat kind turns exit from to before now of is ran = tt
+node_ran (Some held) start id seat kind turns exit from to before now of is ran =
+    rw is (subst (λ (k : MachineKind). IsStarted (rules k) id seat turns exit from to before now) (sym of) ran)

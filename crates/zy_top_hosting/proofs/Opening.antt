@@ -8,9 +8,11 @@ use Rattle.zy_journal.proofs.Told.{from_some, if_some, some_is, was_told}
 use Rattle.zy_node.specs.Keeping.{KeptState}
 use Rattle.zy_node.specs.Recovering.{AreListed, IsBrokenAt, IsRecovered}
 use Rattle.zy_top_hosting.proofs.Joins.{holds_after, marked_of, not_broken, stands_opened, stood_before}
-use Rattle.zy_top_hosting.specs.Recovered.{IsGoneOn, IsNotGoneOn, LosesNone, RecoversAs, is_stopped, pieces_of, rules}
+use Rattle.zy_top_hosting.specs.Recovered.{IsGoneOn, IsNotGoneOn, LosesNone, RecoversAs, is_stopped, pieces_of}
 use Rattle.zy_top_hosting.specs.Serving.{OfJournal}
-use Rattle.zy_top_hosting.specs.Files.{Replica}
+use Rattle.zy_table.specs.State.{State}
+use Rattle.zy_node.specs.Replicas.{replica_rules}
+use Rattle.zy_base.specs.Machine as machines
 use Rattle.zy_top_words.specs.declared.exit.Exit.{Exit}
 use Rattle.zy_top_words.specs.declared.exit.Exit.TheVariants as exits
 
@@ -66,11 +68,11 @@ module _ {D : Type 0} (contents : D → Option (List ℕ)) (may_leave : D → Li
 
   -- ---- it goes on
 
-  module _ (start : Replica) (node : KeptState Replica) (gate : ℕ) (old mid new : D) (size : length identity.0 ≡ 32) (first : gate ≡ 41)
+  module _ {S : Type 0} (R : machines.Rules S) (start : State S) (node : KeptState (State S)) (gate : ℕ) (old mid new : D) (size : length identity.0 ≡ 32) (first : gate ≡ 41)
       (stays : StaysTold (contents old) (contents mid))
       (made : IfSome (contents old) (λ file. IsOnly (opened identity file) (contents mid) (may_leave mid)))
       (marked : IfSome (contents old) (λ file. is_blank file ≡ false → IsMarked identity file))
-      (recovered : IsRecovered rules start (contents mid) gate node) (rests : Rests contents may_leave moment left_since mid new)
+      (recovered : IsRecovered (replica_rules R) start (contents mid) gate node) (rests : Rests contents may_leave moment left_since mid new)
       (end : IsAtEnd (contents new) (may_leave new) node.gate) where
     abbrev records : List (List ℕ)
     records = pieces_of recovered.events
@@ -82,7 +84,7 @@ module _ {D : Type 0} (contents : D → Option (List ℕ)) (may_leave : D → Li
         stands_opened identity file records size (from_some (contents old) (λ f. is_blank f ≡ false → IsMarked identity f) file marked is)
         (subst (λ (n : ℕ). AreListed (opened identity file) n records) first listed)
 
-    pub goes_on : IsGoneOn contents may_leave identity start node old new
+    pub goes_on : IsGoneOn R contents may_leave identity start node old new
     goes_on = record {
       events = recovered.events;
       host = recovered.host;
@@ -97,8 +99,8 @@ module _ {D : Type 0} (contents : D → Option (List ℕ)) (may_leave : D → Li
     }
 
   -- the file was there before it was opened by its name
-  pub goes_on_after : (start : Replica) (node : KeptState Replica) (old mid new : D) → contents mid ≡ contents old → IsGoneOn contents may_leave identity start node mid new → IsGoneOn contents may_leave identity start node old new
-  goes_on_after start node old mid new same gone = record {
+  pub goes_on_after : {S : Type 0} (R : machines.Rules S) (start : State S) (node : KeptState (State S)) (old mid new : D) → contents mid ≡ contents old → IsGoneOn R contents may_leave identity start node mid new → IsGoneOn R contents may_leave identity start node old new
+  goes_on_after R start node old mid new same gone = record {
     events = gone.events;
     host = gone.host;
     stood = still_told (contents old) (contents mid) (λ file. StandsFor identity file (pieces_of gone.events)) same gone.stood;
@@ -129,28 +131,28 @@ each_err P Q (Ok value) gives holds = tt
 each_err P Q (Err fault) gives holds = gives fault holds
 
 -- a reading that ends gives a node, and one that stops says why
-pub recovered_as : (start : Replica) (contents : Option (List ℕ)) (gate : ℕ) (result : Result (KeptState Replica) Exit) → RecoversAs start contents gate result → IfOk result (λ node. IsRecovered rules start contents gate node)
-recovered_as start contents gate (Ok node) is = is
-recovered_as start contents gate (Err fault) is = tt
+pub recovered_as : {S : Type 0} (R : machines.Rules S) (start : State S) (contents : Option (List ℕ)) (gate : ℕ) (result : Result (KeptState (State S)) Exit) → RecoversAs R start contents gate result → IfOk result (λ node. IsRecovered (replica_rules R) start contents gate node)
+recovered_as R start contents gate (Ok node) is = is
+recovered_as R start contents gate (Err fault) is = tt
 
-pub stopped_as : (identity : Digest) (start : Replica) (before contents : Option (List ℕ)) (gate : ℕ) (result : Result (KeptState Replica) Exit)
-    → ((place : ℕ) → IfSome contents (λ file. IsBrokenAt file gate place) → IfSome before (λ file. IsBrokenAt (opened identity file) 41 place)) → RecoversAs start contents gate result → IfErr result (IsNotGoneOn identity before)
-stopped_as identity start before contents gate (Ok node) broken is = tt
-stopped_as identity start before contents gate (Err exits.DiskFault) broken is = tt
-stopped_as identity start before contents gate (Err exits.Want) broken is = tt
-stopped_as identity start before contents gate (Err (exits.Damaged place)) broken is = broken place is
-stopped_as identity start before contents gate (Err exits.Done) broken is = absurd is
-stopped_as identity start before contents gate (Err (exits.Usage word)) broken is = absurd is
-stopped_as identity start before contents gate (Err exits.ReadFault) broken is = absurd is
-stopped_as identity start before contents gate (Err exits.WriteFault) broken is = absurd is
-stopped_as identity start before contents gate (Err (exits.Text line rule)) broken is = absurd is
-stopped_as identity start before contents gate (Err (exits.Group field)) broken is = absurd is
-stopped_as identity start before contents gate (Err (exits.Premise event what)) broken is = absurd is
-stopped_as identity start before contents gate (Err exits.LinkFault) broken is = absurd is
-stopped_as identity start before contents gate (Err exits.TurnsSpent) broken is = absurd is
-stopped_as identity start before contents gate (Err exits.TooLong) broken is = absurd is
-stopped_as identity start before contents gate (Err exits.NotJournal) broken is = absurd is
-stopped_as identity start before contents gate (Err exits.JournalFull) broken is = absurd is
+pub stopped_as : {S : Type 0} (R : machines.Rules S) (identity : Digest) (start : State S) (before contents : Option (List ℕ)) (gate : ℕ) (result : Result (KeptState (State S)) Exit)
+    → ((place : ℕ) → IfSome contents (λ file. IsBrokenAt file gate place) → IfSome before (λ file. IsBrokenAt (opened identity file) 41 place)) → RecoversAs R start contents gate result → IfErr result (IsNotGoneOn identity before)
+stopped_as R identity start before contents gate (Ok node) broken is = tt
+stopped_as R identity start before contents gate (Err exits.DiskFault) broken is = tt
+stopped_as R identity start before contents gate (Err exits.Want) broken is = tt
+stopped_as R identity start before contents gate (Err (exits.Damaged place)) broken is = broken place is
+stopped_as R identity start before contents gate (Err exits.Done) broken is = absurd is
+stopped_as R identity start before contents gate (Err (exits.Usage word)) broken is = absurd is
+stopped_as R identity start before contents gate (Err exits.ReadFault) broken is = absurd is
+stopped_as R identity start before contents gate (Err exits.WriteFault) broken is = absurd is
+stopped_as R identity start before contents gate (Err (exits.Text line rule)) broken is = absurd is
+stopped_as R identity start before contents gate (Err (exits.Group field)) broken is = absurd is
+stopped_as R identity start before contents gate (Err (exits.Premise event what)) broken is = absurd is
+stopped_as R identity start before contents gate (Err exits.LinkFault) broken is = absurd is
+stopped_as R identity start before contents gate (Err exits.TurnsSpent) broken is = absurd is
+stopped_as R identity start before contents gate (Err exits.TooLong) broken is = absurd is
+stopped_as R identity start before contents gate (Err exits.NotJournal) broken is = absurd is
+stopped_as R identity start before contents gate (Err exits.JournalFull) broken is = absurd is
 
 -- both hold of what comes
 pub both_ok : {A E : Type 0} (P Q R : A → Type 0) (result : Result A E) → ((value : A) → P value → Q value → R value) → IfOk result P → IfOk result Q → IfOk result R

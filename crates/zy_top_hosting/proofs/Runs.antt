@@ -2,16 +2,16 @@
 use Rattle.std.proofs.Common.{◌≡◌, ◌⊎◌, inl, inr, ℕ, List, Option, Some, None, subst}
 use Rattle.std.specs.Prelude.{IsTrue}
 use Rattle.std.proofs.KnownBytes.{Keeps-refl}
+use Rattle.zy_base.specs.Machine as machines
 use Rattle.zy_base.specs.declared.ids.ReplicaId.{ReplicaId}
 use Rattle.zy_edge.specs.Link.{Mail, Parcel, StaysAsTold}
 use Rattle.zy_node.specs.Replicas.{replica_rules}
 use Rattle.zy_node.specs.Rules.{Rules}
 use Rattle.zy_node.specs.Told.{IsCutRun, IsRun, MovesAll, Outside, Sends, SendsFront}
 use Rattle.zy_node.specs.Turn.{HostState, Turn, host_of}
-use Rattle.zy_space.specs.Service.{space_rules}
+use Rattle.zy_table.specs.State.{State}
 use Rattle.zy_top_words.specs.Ends.{IsAnswer, IsWritten}
 use Rattle.zy_top_words.specs.declared.exit.Exit.{Exit}
-use Rattle.zy_top_hosting.specs.Files.{Replica}
 use Rattle.zy_top_hosting.specs.Calls.{IsTelling}
 use Rattle.zy_top_hosting.specs.Hosted.{IsIdle, IsServing, is_cut, node_verdict}
 
@@ -63,42 +63,49 @@ cut_from a b receives moments to bound R most before cut = record {
 
 -- ---- a node
 
-module _ (id : ReplicaId) (start : Replica) (turns : ℕ) (exit : Exit) (a b : Option Mail) (receives : ℕ) (moments : Option (List ℕ)) (to : Outside) (old new : Option (List ℕ)) (bound : StaysAsTold a b) where
-  serving_at : IsServing id start turns exit (at b receives moments) to old new → IsServing id start turns exit (at a receives moments) to old new
-  serving_at (inl served) = inl (record {
-    last = served.last;
-    run = run_from a b receives moments to bound (replica_rules space_rules) turns (host_of start) served.last served.run;
-    answer = served.answer;
-    written = served.written;
+module _ {S : Type 0} (R : machines.Rules S) where
+  abbrev Replica : Type 0
+  Replica = State S
+
+  abbrev rules : Rules Replica
+  rules = replica_rules R
+
+  module _ (id : ReplicaId) (start : Replica) (turns : ℕ) (exit : Exit) (a b : Option Mail) (receives : ℕ) (moments : Option (List ℕ)) (to : Outside) (old new : Option (List ℕ)) (bound : StaysAsTold a b) where
+    serving_at : IsServing R id start turns exit (at b receives moments) to old new → IsServing R id start turns exit (at a receives moments) to old new
+    serving_at (inl served) = inl (record {
+      last = served.last;
+      run = run_from a b receives moments to bound rules turns (host_of start) served.last served.run;
+      answer = served.answer;
+      written = served.written;
+    })
+    serving_at (inr cut) = inr (record { cut = cut.cut; run = runs cut.run; written = cut.written })
+      where
+        runs : IsIdle (at b receives moments) to ⊎ IsCutRun rules turns (host_of start) (at b receives moments) to
+            → IsIdle (at a receives moments) to ⊎ IsCutRun rules turns (host_of start) (at a receives moments) to
+        runs (inl idle) = inl (idle_from a b receives moments to bound idle)
+        runs (inr cut) = inr (cut_from a b receives moments to bound rules turns (host_of start) cut)
+
+  pub serving_from : (id : ReplicaId) (start : Replica) (turns : ℕ) (exit : Exit) (a b : Option Mail) (r s : ℕ) (moments : Option (List ℕ)) (to : Outside) (old new : Option (List ℕ))
+      → StaysAsTold a b → s ≡ r → IsServing R id start turns exit (at b s moments) to old new → IsServing R id start turns exit (at a r moments) to old new
+  serving_from id start turns exit a b r s moments to old new bound same serving =
+      serving_at id start turns exit a b r moments to old new bound (subst (λ n. IsServing R id start turns exit (at b n moments) to old new) same serving)
+
+  -- all turns were taken, and it was told of the replica behind them
+  pub served : (id : ReplicaId) (start : Replica) (turns many : ℕ) (exit : Exit) (from to : Outside) (old new : Option (List ℕ)) (before after : ℕ) (begun last : HostState Replica) (told : Replica)
+      → begun ≡ host_of start → many ≡ turns → told ≡ last.core → IsRun rules many begun last from to
+      → IsTelling (node_verdict R id told) exit old new before after → IsServing R id start turns exit from to old new
+  served id start turns many exit from to old new before after begun last told is so same ran telling = inl (record {
+    last = last;
+    run = subst (λ (h : HostState Replica). IsRun rules turns h last from to) is (subst (λ (n : ℕ). IsRun rules n begun last from to) so ran);
+    answer = subst (λ (s : Replica). IsAnswer (node_verdict R id s) exit) same telling.answer;
+    written = subst (λ (s : Replica). IsWritten (node_verdict R id s) exit old new) same telling.written;
   })
-  serving_at (inr cut) = inr (record { cut = cut.cut; run = runs cut.run; written = cut.written })
-    where
-      runs : IsIdle (at b receives moments) to ⊎ IsCutRun (replica_rules space_rules) turns (host_of start) (at b receives moments) to
-          → IsIdle (at a receives moments) to ⊎ IsCutRun (replica_rules space_rules) turns (host_of start) (at a receives moments) to
-      runs (inl idle) = inl (idle_from a b receives moments to bound idle)
-      runs (inr cut) = inr (cut_from a b receives moments to bound (replica_rules space_rules) turns (host_of start) cut)
 
-pub serving_from : (id : ReplicaId) (start : Replica) (turns : ℕ) (exit : Exit) (a b : Option Mail) (r s : ℕ) (moments : Option (List ℕ)) (to : Outside) (old new : Option (List ℕ))
-    → StaysAsTold a b → s ≡ r → IsServing id start turns exit (at b s moments) to old new → IsServing id start turns exit (at a r moments) to old new
-serving_from id start turns exit a b r s moments to old new bound same serving =
-    serving_at id start turns exit a b r moments to old new bound (subst (λ n. IsServing id start turns exit (at b n moments) to old new) same serving)
-
--- all turns were taken, and it was told of the replica behind them
-pub served : (id : ReplicaId) (start : Replica) (turns many : ℕ) (exit : Exit) (from to : Outside) (old new : Option (List ℕ)) (before after : ℕ) (begun last : HostState Replica) (told : Replica)
-    → begun ≡ host_of start → many ≡ turns → told ≡ last.core → IsRun (replica_rules space_rules) many begun last from to
-    → IsTelling (node_verdict id told) exit old new before after → IsServing id start turns exit from to old new
-served id start turns many exit from to old new before after begun last told is so same ran telling = inl (record {
-  last = last;
-  run = subst (λ (h : HostState Replica). IsRun (replica_rules space_rules) turns h last from to) is (subst (λ (n : ℕ). IsRun (replica_rules space_rules) n begun last from to) so ran);
-  answer = subst (λ (s : Replica). IsAnswer (node_verdict id s) exit) same telling.answer;
-  written = subst (λ (s : Replica). IsWritten (node_verdict id s) exit old new) same telling.written;
-})
-
--- they were cut off
-pub cut_serving : (id : ReplicaId) (start : Replica) (turns many : ℕ) (exit : Exit) (from to : Outside) (taken : Option (List ℕ)) (begun : HostState Replica)
-    → IsTrue (is_cut exit) → begun ≡ host_of start → many ≡ turns → IsCutRun (replica_rules space_rules) many begun from to → IsServing id start turns exit from to taken taken
-cut_serving id start turns many exit from to taken begun cut is so ran = inr (record {
-  cut = cut;
-  run = inr (subst (λ (h : HostState Replica). IsCutRun (replica_rules space_rules) turns h from to) is (subst (λ (n : ℕ). IsCutRun (replica_rules space_rules) n begun from to) so ran));
-  written = Keeps-refl taken;
-})
+  -- they were cut off
+  pub cut_serving : (id : ReplicaId) (start : Replica) (turns many : ℕ) (exit : Exit) (from to : Outside) (taken : Option (List ℕ)) (begun : HostState Replica)
+      → IsTrue (is_cut exit) → begun ≡ host_of start → many ≡ turns → IsCutRun rules many begun from to → IsServing R id start turns exit from to taken taken
+  cut_serving id start turns many exit from to taken begun cut is so ran = inr (record {
+    cut = cut;
+    run = inr (subst (λ (h : HostState Replica). IsCutRun rules turns h from to) is (subst (λ (n : ℕ). IsCutRun rules n begun from to) so ran));
+    written = Keeps-refl taken;
+  })

@@ -66,7 +66,7 @@ module _ (bytes text : List ℕ) (fits : IsBytes bytes)
   by_read (Ok reply) is =
       let takes = reply_takes bytes reply fits is in said (Plain reply) takes.0 takes.1
   by_read (Err fault) is =
-      let failed : IsErr (reply_in bytes) = rw is tt in
+      let failed : IsErr (reply_in bytes) = rw is refl in
       elim (cases_Bool (is_denial bytes)) [
         | inl denied ↦
             let named = is_spelled bytes denied in

@@ -53,4 +53,4 @@ guard_op_short (guard_ops.Out access tuple) is = omega (arith, tuple_short tuple
 guard_op_short (guard_ops.Rdp template) is = omega (arith, template_short template is)
 guard_op_short (guard_ops.Inp template) is = omega (arith, template_short template is)
 guard_op_short (guard_ops.Cas template access tuple) is =
-    omega (arith, length-append (template_bytes template) (guard.out_spelling.spell (access, tuple)), template_short template is.0, tuple_short tuple is.1.1)
+    omega (arith, length-append (template_bytes template) (guard.out_spelling.spell (access, tuple)), template_short template is.0, tuple_short tuple is.2)

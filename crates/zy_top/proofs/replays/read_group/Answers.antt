@@ -10,16 +10,16 @@ returns-in_err-text-clause-told g c =
 
 pub returns-clause-told : goal.returns-clause-told
 returns-clause-told g c =
-    group_read {A = Held} (g.F.Files.held c.args.files.now) (λ held. content_of held c.args.group.now) c.in_ok-text.text c.read_setup.result c.in_ok-text.ensures.bytes
-    (rw c.deref.ensures.value at c.read_setup.ensures)
+    group_read {A = Held} (g.F.Files.held c.args.files.now) (λ held. content_of held c.args.group.now) c.in_ok-text.text c.read_scene.result c.in_ok-text.ensures.bytes
+    (rw c.deref.ensures.value at c.read_scene.ensures)
 
 pub returns-clause-spelled : goal.returns-clause-spelled
 returns-clause-spelled g c =
-    setup_spelled {A = Held} (g.F.Files.held c.args.files.now) (λ held. content_of held c.args.group.now) c.in_ok-text.text c.read_setup.result c.in_ok-text.ensures.bytes
-    (rw c.deref.ensures.value at c.read_setup.ensures)
+    setup_spelled {A = Held} (g.F.Files.held c.args.files.now) (λ held. content_of held c.args.group.now) c.in_ok-text.text c.read_scene.result c.in_ok-text.ensures.bytes
+    (rw c.deref.ensures.value at c.read_scene.ensures)
 
 pub returns-clause-start : goal.returns-clause-start
-returns-clause-start g c = setup_starts _ c.read_setup.result c.read_setup.ensures
+returns-clause-start g c = setup_starts _ c.read_scene.result c.read_scene.ensures
 
 pub returns-clause-exit : goal.returns-clause-exit
-returns-clause-exit g c = setup_reads _ c.read_setup.result c.read_setup.ensures
+returns-clause-exit g c = setup_reads _ c.read_scene.result c.read_scene.ensures

@@ -7,28 +7,28 @@ use Rattle.zy_top.proofs.JudgeLaws.{group_answers, schedule_answers}
 use Rattle.zy_top_words.proofs.Stops.{IsWritten-stopped}
 use Rattle.zy_top.proofs.replays.run_replay.Goals as goal
 
-pub returns-in_err-setup-clause-answer : goal.returns-in_err-setup-clause-answer
-returns-in_err-setup-clause-answer g c =
+pub returns-in_err-scene-clause-answer : goal.returns-in_err-scene-clause-answer
+returns-in_err-scene-clause-answer g c =
     let p = err_from_is_err_and c.from_residual.result c.from_residual.ensures.1 in
     rw (p.1, p.2)
     (each {A = Held} (g.F.Files.held c.args.files.now)
-    (λ held judged. group_answers (content_of held c.args.group.now) (content_of held c.args.schedule.now) _ c.in_err-setup.ensures.exit judged)
-    c.in_err-setup.ensures.told)
+    (λ held judged. group_answers (content_of held c.args.group.now) (content_of held c.args.schedule.now) _ c.in_err-scene.ensures.exit judged)
+    c.in_err-scene.ensures.told)
 
-pub returns-in_err-setup-clause-written : goal.returns-in_err-setup-clause-written
-returns-in_err-setup-clause-written g c =
+pub returns-in_err-scene-clause-written : goal.returns-in_err-scene-clause-written
+returns-in_err-scene-clause-written g c =
     let p = err_from_is_err_and c.from_residual.result c.from_residual.ensures.1 in
     rw (p.1, p.2)
     (IsWritten-stopped {A = Held} (g.F.Files.held c.args.files.now) (λ held. replay_verdict (content_of held c.args.group.now) (content_of held c.args.schedule.now)) _
-    (g.S.Sink.taken c.args.out.now) c.in_err-setup.ensures.exit)
+    (g.S.Sink.taken c.args.out.now) c.in_err-scene.ensures.exit)
 
 pub returns-in_err-lines-clause-answer : goal.returns-in_err-lines-clause-answer
 returns-in_err-lines-clause-answer g c =
     let p = err_from_is_err_and c.from_residual-in_err-lines.result c.from_residual-in_err-lines.ensures.1 in
     rw (p.1, p.2)
     (both {A = Held} (g.F.Files.held c.args.files.now)
-    (λ held judged read. schedule_answers (content_of held c.args.group.now) (content_of held c.args.schedule.now) c.in_ok-setup.setup _ c.in_err-lines.ensures.exit judged read)
-    c.in_ok-setup.ensures.told (rw c.in_ok-setup.ensures.held at c.in_err-lines.ensures.told))
+    (λ held judged read. schedule_answers (content_of held c.args.group.now) (content_of held c.args.schedule.now) c.in_ok-scene.scene _ c.in_err-lines.ensures.exit judged read)
+    c.in_ok-scene.ensures.told (rw c.in_ok-scene.ensures.held at c.in_err-lines.ensures.told))
 
 pub returns-in_err-lines-clause-written : goal.returns-in_err-lines-clause-written
 returns-in_err-lines-clause-written g c =
@@ -40,11 +40,11 @@ returns-in_err-lines-clause-written g c =
 pub returns-clause-answer : goal.returns-clause-answer
 returns-clause-answer g c =
     both {A = Held} (g.F.Files.held c.args.files.now)
-    (λ held judged read. rw (judged (content_of held c.args.schedule.now) ∙ read c.in_ok-setup.setup) c.run_told.ensures.answer)
-    c.in_ok-setup.ensures.told (rw c.in_ok-setup.ensures.held at c.in_ok-lines.ensures.told)
+    (λ held judged read. rw (judged (content_of held c.args.schedule.now) ∙ read c.in_ok-scene.scene.machine c.in_ok-scene.scene.setup) c.run_scene.ensures.answer)
+    c.in_ok-scene.ensures.told (rw c.in_ok-scene.ensures.held at c.in_ok-lines.ensures.told)
 
 pub returns-clause-written : goal.returns-clause-written
 returns-clause-written g c =
     both {A = Held} (g.F.Files.held c.args.files.now)
-    (λ held judged read. rw (judged (content_of held c.args.schedule.now) ∙ read c.in_ok-setup.setup) c.run_told.ensures.written)
-    c.in_ok-setup.ensures.told (rw c.in_ok-setup.ensures.held at c.in_ok-lines.ensures.told)
+    (λ held judged read. rw (judged (content_of held c.args.schedule.now) ∙ read c.in_ok-scene.scene.machine c.in_ok-scene.scene.setup) c.run_scene.ensures.written)
+    c.in_ok-scene.ensures.told (rw c.in_ok-scene.ensures.held at c.in_ok-lines.ensures.told)

@@ -6,7 +6,7 @@ use Rattle.zy_top_hosting.proofs.ask.ask.Goals as goal
 
 pub returns-in-Bound-clause-asking : goal.returns-in-Bound-clause-asking
 returns-in-Bound-clause-asking g c =
-    asking_from _ _ _ _ _ _ _ _ _ _ _ _ _ c.bind.ensures.mail c.bind.ensures.receives c.requires.client c.wait.ensures.asking
+    asking_from _ _ _ _ _ _ _ _ _ _ _ _ _ _ c.bind.ensures.mail c.bind.ensures.receives c.requires.client c.wait.ensures.asking
 
 pub returns-in-Failed-clause-asking : goal.returns-in-Failed-clause-asking
 returns-in-Failed-clause-asking g c = inr (record {

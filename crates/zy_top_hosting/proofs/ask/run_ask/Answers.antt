@@ -1,11 +1,7 @@
 use Rattle.zy_base.specs.declared.ids.Party.TheVariants.{Client}
 use Rattle.zy_top_hosting.proofs.Bound.{bound_as}
-use Rattle.zy_top_hosting.proofs.ShortOps.{op_short}
 use Rattle.zy_top_hosting.proofs.ask.run_ask.Goals as goal
 
-pub ask-requires-clause-short : goal.ask-requires-clause-short
-ask-requires-clause-short g c = rw c.in-Ok-op_bytes.ensures (op_short c.args.op.now c.requires)
-
-pub returns-in-Ok-op_bytes-clause-bound : goal.returns-in-Ok-op_bytes-clause-bound
-returns-in-Ok-op_bytes-clause-bound g c =
+pub returns-in-Ok-clause-bound : goal.returns-in-Ok-clause-bound
+returns-in-Ok-clause-bound g c =
     bound_as (Client c.args.id) c.in-Ok.seat.address (record { receives = g.L.Link.receives c.args.link.now; mail = g.L.Link.mail c.args.link.now }) (g.L.Link.binding c.args.link.now) (g.L.Link.binding c.ask.new.link) c.in-Ok.ensures.party c.ask.ensures.bound c.ask.result c.ask.ensures.turning

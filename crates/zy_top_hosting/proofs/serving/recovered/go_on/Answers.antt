@@ -8,8 +8,8 @@ returns-in-Did-clause-gone_on g c =
     let old = c.args.disk.now in
     let opened = c.open.new.self in
     let new = c.read.new.disk in
-    each_ok (λ node. IsGoneOn D.contents D.may_leave c.args.identity.now c.args.replica node opened new) (λ node. IsGoneOn D.contents D.may_leave c.args.identity.now c.args.replica node old new) c.read.result
-    (λ node gone. goes_on_after D.contents D.may_leave D.moment D.left_since c.args.identity.now c.args.replica node old opened new c.open.ensures.contents gone) c.read.ensures.gone_on
+    each_ok (λ node. IsGoneOn g.M.Machine.rules D.contents D.may_leave c.args.identity.now c.args.replica node opened new) (λ node. IsGoneOn g.M.Machine.rules D.contents D.may_leave c.args.identity.now c.args.replica node old new) c.read.result
+    (λ node gone. goes_on_after D.contents D.may_leave D.moment D.left_since c.args.identity.now g.M.Machine.rules c.args.replica node old opened new c.open.ensures.contents gone) c.read.ensures.gone_on
 
 pub returns-in-Did-clause-not_gone_on : goal.returns-in-Did-clause-not_gone_on
 returns-in-Did-clause-not_gone_on g c =

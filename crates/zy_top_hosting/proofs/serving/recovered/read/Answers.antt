@@ -1,21 +1,23 @@
 use Rattle.zy_journal.specs.Journal.{IsAtEnd}
 use Rattle.zy_node.specs.Recovering.{IsRecovered}
 use Rattle.zy_top_hosting.proofs.Opening.{both_ok, damaged, goes_on, loses_opened, loses_then, recovered_as, stopped_as}
-use Rattle.zy_top_hosting.specs.Recovered.{IsGoneOn, rules}
+use Rattle.zy_top_hosting.specs.Recovered.{IsGoneOn}
+use Rattle.zy_node.specs.Replicas.{replica_rules}
 use Rattle.zy_top_hosting.proofs.serving.recovered.read.Goals as goal
 
 pub returns-in-Ok-clause-gone_on : goal.returns-in-Ok-clause-gone_on
 returns-in-Ok-clause-gone_on g c =
     let D = g.D.Disk in
+    let R = g.M.Machine.rules in
     let old = c.args.disk.now in
     let mid = c.open.new.disk in
     let new = c.recover.new.disk in
     let reading = c.in-Ok.reading in
     let identity = c.args.identity.now in
     let start = c.args.replica in
-    both_ok (λ node. IsRecovered rules start (D.contents mid) reading node) (λ node. IsAtEnd (D.contents new) (D.may_leave new) node.gate) (λ node. IsGoneOn D.contents D.may_leave identity start node old new) c.recover.result
-    (λ node recovered end. goes_on D.contents D.may_leave D.moment D.left_since identity start node reading old mid new c.requires c.in-Ok.ensures.first c.in-Ok.ensures.told c.in-Ok.ensures.contents c.in-Ok.ensures.exactly recovered c.recover.ensures.rests end)
-    (recovered_as start (D.contents mid) reading c.recover.result c.recover.ensures.recovered) c.recover.ensures.end
+    both_ok (λ node. IsRecovered (replica_rules R) start (D.contents mid) reading node) (λ node. IsAtEnd (D.contents new) (D.may_leave new) node.gate) (λ node. IsGoneOn R D.contents D.may_leave identity start node old new) c.recover.result
+    (λ node recovered end. goes_on D.contents D.may_leave D.moment D.left_since identity R start node reading old mid new c.requires c.in-Ok.ensures.first c.in-Ok.ensures.told c.in-Ok.ensures.contents c.in-Ok.ensures.exactly recovered c.recover.ensures.rests end)
+    (recovered_as R start (D.contents mid) reading c.recover.result c.recover.ensures.recovered) c.recover.ensures.end
 
 pub returns-in-Ok-clause-not_gone_on : goal.returns-in-Ok-clause-not_gone_on
 returns-in-Ok-clause-not_gone_on g c =
@@ -24,7 +26,7 @@ returns-in-Ok-clause-not_gone_on g c =
     let mid = c.open.new.disk in
     let reading = c.in-Ok.reading in
     let identity = c.args.identity.now in
-    stopped_as identity c.args.replica (D.contents old) (D.contents mid) reading c.recover.result
+    stopped_as g.M.Machine.rules identity c.args.replica (D.contents old) (D.contents mid) reading c.recover.result
     (λ place broken. damaged D.contents D.may_leave D.moment D.left_since identity old mid reading place c.in-Ok.ensures.first c.in-Ok.ensures.told c.in-Ok.ensures.contents broken) c.recover.ensures.recovered
 
 pub returns-in-Ok-clause-loses_none : goal.returns-in-Ok-clause-loses_none
