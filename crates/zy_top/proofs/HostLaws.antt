@@ -1,21 +1,12 @@
 -- What a node and an ask come to, and that no other command ends as they do.
 use Rattle.std.proofs.Common.{◌≡◌, ℕ, ◌<◌, ◌⊎◌, inl, inr, List, [], ◌∷◌, Option, Some, None, IfSome, Result, Ok, Err, refl, ap, arith}
 use Rattle.std.specs.Prelude.{◌≢◌, IsTrue, false}
-use Rattle.zy_edge.specs.Binding.{BindCalls, Standing}
 use Rattle.zy_edge.specs.Faults.{IsCounted, Rose}
-use Rattle.std.proofs.KnownBytes.{Keeps-refl}
-use Rattle.zy_edge.specs.Files.{Held, content_of}
+use Rattle.zy_edge.specs.Files.{Held}
 use Rattle.zy_top_hosting.specs.Calls.{is_hosting}
-use Rattle.zy_top_hosting.specs.Files.{Seat, asker_start}
-use Rattle.zy_top_hosting.specs.Hosted.{IsAskRun, Surroundings, files_verdict, is_end}
-use Rattle.zy_table.specs.ClientState.{ClientState}
-use Rattle.zy_top.specs.Hosting.{AreBound, IsHosted}
-use Rattle.zy_tuple.specs.Bytes.{op_bytes}
+use Rattle.zy_top_hosting.specs.Hosted.{files_verdict, is_end}
 use Rattle.zy_top_words.proofs.Endings.{rose}
 use Rattle.zy_top_words.specs.Ends.{IsReport, Verdict, is_foreign, is_link_fault, is_read_fault, is_write_fault}
-use Rattle.zy_base.specs.declared.ids.ClientId.{ClientId}
-use Rattle.zy_tuple.specs.declared.values.Op.{Op}
-use Rattle.zy_top_words.specs.Words.{Command, asked, op_alone}
 use Rattle.zy_top_words.specs.declared.exit.Exit.{Exit}
 use Rattle.zy_top_words.specs.declared.exit.Exit.TheVariants as exits
 
@@ -79,33 +70,3 @@ no_link_fault exits.TooLong own = refl
 
 pub not_spent : (exit : Exit) → (IsTrue (is_foreign exit) → ⊥) → exit ≢ exits.TurnsSpent
 not_spent exit own is = own (rw is refl)
-
--- ---- the words of an ask
-
-unread : (id : ClientId) (start : Result (Seat ClientState) Exit) (op : List ℕ) (turns : ℕ) (outside : Surroundings) (taken : Option (List ℕ)) → IsAskRun id start op turns exits.Want outside outside taken taken
-unread id (Err refusal) op turns outside taken = refl
-unread id (Ok start) op turns outside taken = inr (record { unread = refl; outside = refl; written = Keeps-refl taken })
-
--- where memory is wanted for its operation, nothing was done
-pub asked_in_vain : (told : Option Held) (group secret : List ℕ) (id : ClientId) (turns : ℕ) (read : Result Op ℕ) (outside : Surroundings) (taken : Option (List ℕ))
-    → IsHosted told (asked group secret id turns read) exits.Want outside outside taken taken
-asked_in_vain told group secret id turns (Err word) outside taken = refl
-asked_in_vain None group secret id turns (Ok op) outside taken = tt
-asked_in_vain (Some files) group secret id turns (Ok op) outside taken =
-    unread id (asker_start id (content_of files group) (content_of files secret)) (op_bytes op) turns outside taken
-
--- and no address asked for
-pub unbound : (group secret : List ℕ) (id : ClientId) (turns : ℕ) (read : Result Op ℕ) (start : Standing) (binding : BindCalls) → AreBound (asked group secret id turns read) exits.Want start binding binding
-unbound group secret id turns (Err word) start binding = refl
-unbound group secret id turns (Ok op) start binding = inl refl
-
-unfoldable word_of : Result Command ℕ → ℕ
-word_of (Ok command) = 0
-word_of (Err word) = word
-
--- an operation that is wrong is the sixth word, and what stands behind it the seventh
-pub late_word : (read : Result Op ℕ) (words : List (List ℕ)) (group secret : List ℕ) (id : ClientId) (turns word : ℕ) → asked group secret id turns (op_alone read words) ≡ Err word → word < 6 → ⊥
-unfolding word_of
-late_word (Err rule) words group secret id turns word is early = let six : 6 ≡ word = ap word_of is in absurd (omega (arith, six, early))
-late_word (Ok op) [] group secret id turns word is early = cc
-late_word (Ok op) (other ∷ words) group secret id turns word is early = let seven : 7 ≡ word = ap word_of is in absurd (omega (arith, seven, early))

@@ -1,20 +1,16 @@
 -- Which commands leave the disk alone, and how the one ends that doesn't.
 use Rattle.std.proofs.Common.{◌≡◌, ℕ, false, List, Option, Some, None, IfSome, Result, Ok, Err, refl}
 use Rattle.std.specs.Prelude.{IsTrue}
-use Rattle.zy_base.specs.declared.ids.ClientId.{ClientId}
 use Rattle.zy_base.specs.declared.ids.Digest.{Digest}
 use Rattle.zy_edge.specs.Faults.{IsCounted, Rose}
 use Rattle.zy_edge.specs.Files.{Held}
 use Rattle.zy_top_hosting.specs.Serving.{OfJournal, is_kept_end, is_kept_hosting}
-use Rattle.zy_top.specs.Keeping.{GoesOnItself, IsKeptCommand}
 use Rattle.zy_top.specs.Replaying.{is_running}
-use Rattle.zy_top_hosting.specs.Hosted.{Surroundings, files_verdict}
+use Rattle.zy_top_hosting.specs.Hosted.{files_verdict}
 use Rattle.zy_top_words.proofs.Endings.{rose}
 use Rattle.zy_top_words.specs.Ends.{Verdict, is_disk_fault, is_foreign, is_link_fault, is_of_journal, is_read_fault, is_write_fault}
-use Rattle.zy_top_words.specs.Words.{asked}
 use Rattle.zy_top_words.specs.declared.exit.Exit.{Exit}
 use Rattle.zy_top_words.specs.declared.exit.Exit.TheVariants as exits
-use Rattle.zy_tuple.specs.declared.values.Op.{Op}
 
 -- ---- how other commands end
 
@@ -76,18 +72,6 @@ no_disk_fault exits.TooLong own = refl
 -- so the disk is counted as it is left
 pub left_counted : (exit : Exit) (count : ℕ) → (IsTrue (is_of_journal exit) → ⊥) → IsCounted (is_disk_fault exit) count count
 left_counted exit count own = rw (no_disk_fault exit own) refl
-
--- ---- an ask leaves the disk alone, whatever its operation is
-
-module _ {D : Type 0} (contents : D → Option (List ℕ)) (may_leave : D → List ℕ → Type 0) (moment : D → ℕ) (left_since : D → ℕ → List ℕ → Type 0) where
-  pub asked_leaves : (told : Option Held) (group secret : List ℕ) (id : ClientId) (turns : ℕ) (read : Result Op ℕ) (exit : Exit) (from to : Surroundings) (before after : Option (List ℕ)) (disk : D) → (IsTrue (is_of_journal exit) → ⊥)
-      → IsKeptCommand contents may_leave moment left_since told (asked group secret id turns read) exit from to before after disk disk
-  asked_leaves told group secret id turns (Err word) exit from to before after disk own = (refl, own)
-  asked_leaves told group secret id turns (Ok op) exit from to before after disk own = (refl, own)
-
-pub asked_goes_on : (told : Option Held) (contents : Option (List ℕ)) (group secret : List ℕ) (id : ClientId) (turns : ℕ) (read : Result Op ℕ) (exit : Exit) → GoesOnItself told contents (asked group secret id turns read) exit
-asked_goes_on told contents group secret id turns (Err word) exit = tt
-asked_goes_on told contents group secret id turns (Ok op) exit = tt
 
 -- ---- where no object fails it ends by itself
 

@@ -1,4 +1,5 @@
 -- How the parts of a trace follow one another.
+use Rattle.zy_group.specs.declared.machine.MachineKind.{MachineKind}
 use Rattle.std.proofs.Common.{◌≡◌, ℕ, zero, suc, ◌+◌, ◌-◌, ◌<◌, Some, None, List, [], ◌∷◌, Option, Ok, Err, refl, sym, ap, ap₂, ◌∙◌, arith}
 use Rattle.std.specs.Prelude.{slice_get}
 use Rattle.zy_base.specs.Machine.{Rules}
@@ -22,9 +23,9 @@ use Rattle.zy_world_law.specs.declared.event.WorldEvent.{WorldEvent}
 use Rattle.zy_world_law.specs.declared.event.WorldEvent.TheVariants as happenings
 use Rattle.zy_world_law.specs.declared.note.Note.{Note}
 
-pub told_same : (a b : List ℕ) (m n : ℕ) (s r : List (Option Party)) → a ≡ b → m ≡ n → s ≡ r
-    → ◌≡◌ {A = Told} (record { text = a; events = m; senders = s }) (record { text = b; events = n; senders = r })
-told_same a b m n s r text events senders = rw (text, events, senders) refl
+pub told_same : (k l : MachineKind) (a b : List ℕ) (m n : ℕ) (s r : List (Option Party)) → k ≡ l → a ≡ b → m ≡ n → s ≡ r
+    → ◌≡◌ {A = Told} (record { machine = k; text = a; events = m; senders = s }) (record { machine = l; text = b; events = n; senders = r })
+told_same k l a b m n s r machine text events senders = rw (machine, text, events, senders) refl
 
 -- some of it was traced, and this is left
 abbrev pub IsLeft : {S : Type 0} → Trace S → (World S → Told → Trace S) → Told → Shown S → Type 0

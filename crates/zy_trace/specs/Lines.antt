@@ -51,6 +51,10 @@ act_line number act party = act_front number act party ++ 10 ∷ []
 abbrev pub ask_line : ℕ → ClientId → Op → List ℕ
 ask_line number client op = act_front number (codes " ask ") (Some (parties.Client client)) ++ 32 ∷ op_text op ++ 10 ∷ []
 
+-- with raw bytes
+abbrev pub ask_hex_line : ℕ → ClientId → List ℕ → List ℕ
+ask_hex_line number client op = act_front number (codes " ask ") (Some (parties.Client client)) ++ codes " hex " ++ encode_lower op ++ 10 ∷ []
+
 abbrev pub timer_line : ℕ → Party → TimerKind → List ℕ
 timer_line number party kind = act_front number (codes " timer ") (Some party) ++ 32 ∷ kind_text kind ++ 10 ∷ []
 

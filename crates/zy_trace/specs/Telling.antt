@@ -1,4 +1,5 @@
 -- The trace of a schedule: what is told of each of its events, in the order of the run.
+use Rattle.zy_group.specs.declared.machine.MachineKind.{MachineKind}
 use Rattle.std.specs.Prelude.{ℕ, zero, suc, ◌+◌, ◌-◌, ◌==◌, true, false, if◌then◌else◌, List, [], ◌∷◌, ◌++◌, codes, length, map, drop, replicate, slice_get, Option, Some, None, option_map, unwrap_or}
 use Rattle.zy_base.specs.Machine.{Rules}
 use Rattle.zy_base.specs.declared.ids.Party.{Party}
@@ -7,7 +8,7 @@ use Rattle.zy_base.specs.declared.step.Answer.{Answer}
 use Rattle.zy_base.specs.declared.step.Answer.TheVariants.{Taken, Held, Refused}
 use Rattle.zy_schedule.specs.declared.line.Line.{Line}
 use Rattle.zy_schedule.specs.declared.line.Line.TheVariants as lines
-use Rattle.zy_space.specs.Service.{space_rules}
+use Rattle.zy_top_words.specs.Machines.{rules, state_of}
 use Rattle.zy_table.specs.ClientState.{ClientState}
 use Rattle.zy_table.specs.State.{State}
 use Rattle.zy_top.specs.Acts.{act_of}
@@ -18,7 +19,6 @@ use Rattle.zy_top.specs.declared.acts.Act.TheVariants as acts
 use Rattle.zy_top_words.specs.Ends.{Verdict}
 use Rattle.zy_top_words.specs.declared.exit.Broken.{Broken}
 use Rattle.zy_top_words.specs.declared.exit.Exit.TheVariants as exits
-use Rattle.zy_tuple.specs.declared.values.Field.{Field}
 use Rattle.zy_world.specs.Answers.{ask_answer, heard_answer, timer_answer}
 use Rattle.zy_world.specs.Shown.{Seated}
 use Rattle.zy_world_law.specs.Events as events
@@ -29,7 +29,7 @@ use Rattle.zy_world_law.specs.declared.event.WorldEvent.{WorldEvent}
 use Rattle.zy_world_law.specs.declared.event.WorldEvent.TheVariants as happenings
 use Rattle.zy_world_law.specs.declared.note.Note.{Note}
 use Rattle.zy_trace.specs.Frames.{kind_name, statement_in}
-use Rattle.zy_trace.specs.Lines.{act_line, answer_line, ask_line, broken_line, client_stands, frame_line, unspent_behind, replica_stands, sends_line, signing_line, timer_line}
+use Rattle.zy_trace.specs.Lines.{act_line, answer_line, ask_hex_line, ask_line, broken_line, client_stands, frame_line, unspent_behind, replica_stands, sends_line, signing_line, timer_line}
 use Rattle.zy_trace.specs.declared.statement.Statement.{Statement}
 
 -- ---- whom a line and an event concern
@@ -100,6 +100,7 @@ moved_line number act frame from to mail = frame_line number act frame (kind_of 
 
 abbrev pub head_line : {S : Type 0} → World S → List (Option Party) → ℕ → Line → List ℕ
 head_line w senders before (lines.Ask client op) = ask_line (before + 1) client op
+head_line w senders before (lines.AskHex client op) = ask_hex_line (before + 1) client op
 head_line w senders before (lines.Deliver frame to) = moved_line (before + 1) (codes " deliver ") frame (sender_in senders frame) to (mail_at w frame)
 head_line w senders before (lines.Timer party kind) = timer_line (before + 1) party kind
 head_line w senders before (lines.Order liar view asks to) = act_line (before + 1) (codes " order ") (Some liar)
@@ -149,10 +150,10 @@ stand_line R w number by (Some (Refused cause)) = []
 
 -- The event led to this world. This party acted by it, whose next signature had this number, and so many frames were sent before: what it
 -- answered, what the report has of the event, the frames that were sent, and where the party stands.
-abbrev pub event_lines : {S : Type 0} → Rules S → World S → ℕ → Option Party → ℕ → ℕ → Note → Option Answer → List ℕ
-event_lines R w number by unspent sent note answer =
+abbrev pub event_lines : {S : Type 0} → MachineKind → Rules S → World S → ℕ → Option Party → ℕ → ℕ → Note → Option Answer → List ℕ
+event_lines kind R w number by unspent sent note answer =
     answer_line number by answer
-    ++ (note_line number note
+    ++ (note_line kind number note
     ++ (frames_lines number by unspent (sent + 1) (drop sent w.bag)
     ++ stand_line R w number by answer))
 
@@ -160,12 +161,14 @@ event_lines R w number by unspent sent note answer =
 
 -- what is told so far, of how many events, and who sent each frame
 pub record Told : Type 0 where
+  -- of replicas of this machine
+  pub machine : MachineKind
   pub text : List ℕ
   pub events : ℕ
   pub senders : List (Option Party)
 
-abbrev pub nothing : Told
-nothing = record { text = []; events = 0; senders = [] }
+abbrev pub nothing : MachineKind → Told
+nothing kind = record { machine = kind; text = []; events = 0; senders = [] }
 
 -- a schedule's line comes
 abbrev pub headed : {S : Type 0} → World S → Line → Told → Told
@@ -175,7 +178,8 @@ headed w line t = record t { text = t.text ++ head_line w t.senders t.events lin
 abbrev pub followed : {S : Type 0} → Rules S → World S → Option Party → ℕ → Note → Option Answer → Told → Told
 followed R w by unspent note answer t =
     record {
-      text = t.text ++ event_lines R w (t.events + 1) by unspent (length t.senders) note answer;
+      machine = t.machine;
+      text = t.text ++ event_lines t.machine R w (t.events + 1) by unspent (length t.senders) note answer;
       events = t.events + 1;
       senders = t.senders ++ replicate (length w.bag - length t.senders) by;
     }
@@ -229,8 +233,8 @@ trace R [] w t = Goes w t
 trace R (line ∷ more) w t = then_on (trace_line R line w t) (trace R more)
 
 -- from the start of its world
-abbrev pub trace_of : Setup → List Line → Trace (List (List Field))
-trace_of setup schedule = trace space_rules schedule (start space_rules setup) nothing
+abbrev pub trace_of : (kind : MachineKind) → Setup → List Line → Trace (state_of kind)
+trace_of kind setup schedule = trace (rules kind) schedule (start (rules kind) setup) (nothing kind)
 
 -- ---- what is to be written
 

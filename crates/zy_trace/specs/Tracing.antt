@@ -15,7 +15,7 @@ use Rattle.zy_world_law.specs.Runs.{End, Run}
 use Rattle.zy_world_law.specs.World.{World}
 
 abbrev pub told_of : Trace → Told
-told_of t = record { text = t.text.items; events = t.events; senders = t.senders.items }
+told_of t = record { machine = t.machine; text = t.text.items; events = t.events; senders = t.senders.items }
 
 -- a part of a schedule was traced, or it ended at an event that isn't honest
 abbrev pub IsTraced : {S : Type 0} → telling.Trace S → Told → Result (Shown S) stops.Stop → Type 0

@@ -38,4 +38,4 @@ EndsAsReplay files (Ok names) exit = IsAnswer (replay_verdict (content_of files 
 abbrev pub WritesTrace : Held → Result Named ℕ → Exit → Option (List ℕ) → Option (List ℕ) → Type 0
 WritesTrace files (Err word) exit old new = ⊤
 WritesTrace files (Ok names) exit old new =
-    OfReplay (λ setup schedule. IsWritten (trace_verdict (trace_of setup schedule)) exit old new) (content_of files names.group) (content_of files names.schedule)
+    OfReplay (λ kind setup schedule. IsWritten (trace_verdict (trace_of kind setup schedule)) exit old new) (content_of files names.group) (content_of files names.schedule)

@@ -49,6 +49,23 @@ pub(crate) fn put_ask(
     Ok(())
 }
 
+pub(crate) fn put_ask_hex(
+    alloc: Global,
+    out: &mut Vec<u8>,
+    number: u64,
+    client: ClientId,
+    op: &Bytes,
+) -> Result<(), Want>
+    ensures { OnOk result (out.new.items ≡ out.old.items ++ spelled.ask_hex_line number client op.now) }
+{
+    let digits = hex::encode(alloc, op.as_slice())?;
+    put_act(alloc, out, number, b" ask ", Some(Party::Client(client)))?;
+    out.extend_from_slice(b" hex ")?;
+    out.extend_from_slice(digits.as_bytes())?;
+    out.push(b'\n')?;
+    Ok(())
+}
+
 pub(crate) fn put_timer(
     alloc: Global,
     out: &mut Vec<u8>,

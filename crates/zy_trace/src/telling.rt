@@ -9,12 +9,13 @@ ghost use Rattle.zy_world.specs.Shows.{Shows};
 ghost use Rattle.zy_world_law.specs.World.{World as Whole, mail_at};
 
 use crate::lines::{
-    put_act_line, put_answer, put_ask, put_broken, put_client, put_frame_line, put_replica,
+    put_act_line, put_answer, put_ask, put_ask_hex, put_broken, put_client, put_frame_line, put_replica,
     put_sends, put_signing, put_timer, unspent_behind,
 };
 use crate::statement::{Statement, kind_name, statement_in};
 use std::alloc::Global;
 use zy_base::{Answer, Machine, Party, Want};
+use zy_group::MachineKind;
 use zy_schedule::Line;
 use zy_top::note_line;
 use zy_top_words::Broken;
@@ -24,6 +25,7 @@ use zy_world_law::Note;
 /// What is told so far, of how many events, and who sent each frame.
 #[derive(Drop)]
 pub(crate) struct Trace {
+    pub(crate) machine: MachineKind,
     pub(crate) text: Vec<u8>,
     pub(crate) events: u64,
     pub(crate) senders: Vec<Option<Party>>,
@@ -31,12 +33,14 @@ pub(crate) struct Trace {
 
 impl Trace {
     /// Nothing.
-    pub(crate) fn new(alloc: Global) -> Trace
+    pub(crate) fn new(alloc: Global, machine: MachineKind) -> Trace
+        ensures machine { result.machine ≡ machine }
         ensures text { result.text.items ≡ [] }
         ensures events { result.events ≡ 0 }
         ensures senders { result.senders.items ≡ [] }
     {
         Trace {
+            machine,
             text: Vec::new(alloc),
             events: 0,
             senders: Vec::new(alloc),
@@ -55,11 +59,15 @@ impl Trace {
         ensures text { (g : Whole M.State) → Shows g world.now → OnOk result (self.new.text.items ≡ self.old.text.items ++ traces.head_line g self.old.senders.items self.old.events line.now) }
         ensures events { self.new.events ≡ self.old.events }
         ensures senders { self.new.senders.items ≡ self.old.senders.items }
+        ensures machine { self.new.machine ≡ self.old.machine }
     {
         let before = self.events;
         let number = before + 1;
         match line {
             Line::Ask { client, op } => put_ask(alloc, &mut self.text, number, *client, op),
+            Line::AskHex { client, op } => {
+                put_ask_hex(alloc, &mut self.text, number, *client, op)
+            }
             Line::Deliver { frame, to } => self.deliver(alloc, world, *frame, *to),
             Line::Timer { party, kind } => {
                 put_timer(alloc, &mut self.text, number, *party, *kind)
@@ -86,6 +94,7 @@ impl Trace {
         ensures text { OnOk result (self.new.text.items ≡ self.old.text.items ++ spelled.act_line number act.now party) }
         ensures events { self.new.events ≡ self.old.events }
         ensures senders { self.new.senders.items ≡ self.old.senders.items }
+        ensures machine { self.new.machine ≡ self.old.machine }
     {
         put_act_line(alloc, &mut self.text, number, act, party)
     }
@@ -103,6 +112,7 @@ impl Trace {
             self.old.text.items ++ traces.moved_line (self.old.events + 1) (codes " deliver ") frame (traces.sender_in self.old.senders.items frame) to (mail_at g frame)) }
         ensures events { self.new.events ≡ self.old.events }
         ensures senders { self.new.senders.items ≡ self.old.senders.items }
+        ensures machine { self.new.machine ≡ self.old.machine }
     {
         let number = self.events + 1;
         self.moved(alloc, world, number, b" deliver ", frame, to)
@@ -122,6 +132,7 @@ impl Trace {
             self.old.text.items ++ traces.moved_line number act.now frame (traces.sender_in self.old.senders.items frame) to (mail_at g frame)) }
         ensures events { self.new.events ≡ self.old.events }
         ensures senders { self.new.senders.items ≡ self.old.senders.items }
+        ensures machine { self.new.machine ≡ self.old.machine }
     {
         let from = sender_in(self.senders.as_slice(), frame);
         let mail = world.mail(frame);
@@ -142,16 +153,17 @@ impl Trace {
     ) -> Result<(), Want>
         requires { self.old.events + 1 < 2 ^ 64 }
         ensures text { (g : Whole M.State) → Shows g world.now → OnOk result (self.new.text.items ≡
-            self.old.text.items ++ traces.event_lines M.rules g (self.old.events + 1) by unspent (length self.old.senders.items) note.now answer) }
+            self.old.text.items ++ traces.event_lines self.old.machine M.rules g (self.old.events + 1) by unspent (length self.old.senders.items) note.now answer) }
         ensures events { OnOk result (self.new.events ≡ self.old.events + 1) }
         ensures senders { (g : Whole M.State) → Shows g world.now → OnOk result (self.new.senders.items ≡
             self.old.senders.items ++ replicate (length g.bag - length self.old.senders.items) by) }
         ensures count { self.new.events ≤ self.old.events + 1 }
+        ensures machine { self.new.machine ≡ self.old.machine }
     {
         let number = self.events + 1;
         let known = self.senders.len();
         put_answer(alloc, &mut self.text, number, by, answer)?;
-        put_note(alloc, &mut self.text, number, note)?;
+        put_note(alloc, &mut self.text, self.machine, number, note)?;
         put_frames(
             alloc,
             &mut self.text,
@@ -173,6 +185,7 @@ impl Trace {
         ensures text { OnOk result (self.new.text.items ≡ self.old.text.items ++ spelled.broken_line (self.old.events + 1) what) }
         ensures events { self.new.events ≡ self.old.events }
         ensures senders { self.new.senders.items ≡ self.old.senders.items }
+        ensures machine { self.new.machine ≡ self.old.machine }
     {
         let number = self.events + 1;
         put_broken(alloc, &mut self.text, number, what)
@@ -225,10 +238,16 @@ pub(crate) fn receiver(to: Option<Party>, mail: Option<&Mail>) -> Option<Party>
 }
 
 /// What the report has of an event.
-fn put_note(alloc: Global, out: &mut Vec<u8>, number: u64, note: &Note) -> Result<(), Want>
-    ensures { OnOk result (out.new.items ≡ out.old.items ++ note_line number note.now) }
+fn put_note(
+    alloc: Global,
+    out: &mut Vec<u8>,
+    machine: MachineKind,
+    number: u64,
+    note: &Note,
+) -> Result<(), Want>
+    ensures { OnOk result (out.new.items ≡ out.old.items ++ note_line machine number note.now) }
 {
-    let line = note_line(alloc, number, note)?;
+    let line = note_line(alloc, machine, number, note)?;
     out.extend_from_slice(line.as_slice())?;
     Ok(())
 }

@@ -3,13 +3,13 @@ ghost use Rattle.std.specs.Prelude.{◌≡◌, ◌≤◌, ◌↔◌, ℕ, All, E
 ghost use Rattle.zy_edge.specs.Faults.{IsCounted};
 ghost use Rattle.zy_edge.specs.Files.{content_of};
 ghost use Rattle.zy_schedule.specs.Texts.{IsSaid};
-ghost use Rattle.zy_space.specs.Service.{space_rules};
+ghost use Rattle.zy_top_words.specs.Machines.{rules};
 ghost use Rattle.zy_top.specs.Replaying.{IsRunning, OfReplay};
 ghost use Rattle.zy_top.specs.Verdict.{replay_verdict, run_verdict};
 ghost use Rattle.zy_top_words.specs.Calls.{exit_of};
 ghost use Rattle.zy_top_words.specs.Ends.{IsAnswer, IsWritten, is_foreign, is_read_fault, is_refusal, is_write_fault, limit};
 ghost use Rattle.zy_top_words.specs.Words.{texts};
-ghost use Rattle.zy_trace.specs.Telling.{trace_of, trace_verdict};
+ghost use Rattle.zy_trace.specs.Telling.{nothing, trace, trace_of, trace_verdict};
 ghost use Rattle.zy_trace.specs.Tracing.{IsStopOf, stopped_verdict};
 ghost use Rattle.zy_trace.specs.Words.{EndsAsReplay, WritesTrace, trace_words};
 ghost use Rattle.zy_world_law.specs.Runs.{run};
@@ -20,11 +20,13 @@ use crate::run::trace_lines;
 use crate::telling::Trace;
 use crate::words::trace_words;
 use std::alloc::Global;
-use zy_base::Want;
+use zy_base::{Machine, Want};
 use zy_edge::{Files, Sink};
+use zy_group::MachineKind;
+use zy_guard::Guard;
 use zy_schedule::Line;
 use zy_space::Space;
-use zy_top::{Stop, read_group, read_lines};
+use zy_top::{Scene, Stop, read_group, read_lines};
 use zy_top_words::{Exit, write_all};
 use zy_world::World;
 use zy_world_setup::Setup;
@@ -69,7 +71,7 @@ fn trace_files<F: Files, S: Sink>(
     out: &mut S,
 ) -> Result<(), Exit>
     ensures answer { IfSome (F.held files.old) (λ held. IsAnswer (replay_verdict (content_of held group.now) (content_of held schedule.now)) (exit_of result)) }
-    ensures written { IfSome (F.held files.old) (λ held. OfReplay (λ setup lines. IsWritten (trace_verdict (trace_of setup lines)) (exit_of result) (S.taken out.old) (S.taken out.new))
+    ensures written { IfSome (F.held files.old) (λ held. OfReplay (λ kind setup lines. IsWritten (trace_verdict (trace_of kind setup lines)) (exit_of result) (S.taken out.old) (S.taken out.new))
         (content_of held group.now) (content_of held schedule.now)) }
     ensures judged { IsTrue (is_foreign (exit_of result)) → ⊥ }
     ensures refused { IsTrue (is_refusal (exit_of result)) → out.new ≡ out.old }
@@ -77,27 +79,27 @@ fn trace_files<F: Files, S: Sink>(
     ensures write_faults { IsCounted (is_write_fault (exit_of result)) (S.faults out.old) (S.faults out.new) }
     ensures held { F.held files.new ≡ F.held files.old }
 {
-    let setup = read_group(alloc, group, files)?;
+    let scene = read_group(alloc, group, files)?;
     let lines = read_lines(alloc, schedule, files)?;
-    trace_told(alloc, setup, lines, out)
+    trace_told(alloc, scene, lines, out)
 }
 
 /// Runs what was read, and writes what is told of it.
 fn trace_told<S: Sink>(
     alloc: Global,
-    setup: Setup,
+    scene: Scene,
     lines: Vec<Line>,
     out: &mut S,
 ) -> Result<(), Exit>
-    requires start { IsStart setup }
+    requires start { IsStart scene.setup }
     requires said { All IsSaid lines.items }
     requires few { length lines.items ≤ limit }
-    ensures answer { IsAnswer (run_verdict space_rules (run space_rules lines.items (start space_rules setup))) (exit_of result) }
-    ensures written { IsWritten (trace_verdict (trace_of setup lines.items)) (exit_of result) (S.taken out.old) (S.taken out.new) }
+    ensures answer { IsAnswer (run_verdict scene.machine (rules scene.machine) (run (rules scene.machine) lines.items (start (rules scene.machine) scene.setup))) (exit_of result) }
+    ensures written { IsWritten (trace_verdict (trace_of scene.machine scene.setup lines.items)) (exit_of result) (S.taken out.old) (S.taken out.new) }
     ensures exit { IsRunning result }
     ensures count { IsCounted (is_write_fault (exit_of result)) (S.faults out.old) (S.faults out.new) }
 {
-    let finished = trace_run(alloc, setup, lines)?;
+    let finished = trace_scene(alloc, scene, lines)?;
     write_all(out, &finished.text)?;
     match finished.stop {
         None => Ok(()),
@@ -112,15 +114,35 @@ struct Finished {
     stop: Option<Exit>,
 }
 
-fn trace_run(alloc: Global, setup: Setup, lines: Vec<Line>) -> Result<Finished, Want>
+fn trace_scene(alloc: Global, scene: Scene, lines: Vec<Line>) -> Result<Finished, Want>
+    requires start { IsStart scene.setup }
+    requires said { All IsSaid lines.items }
+    requires few { length lines.items ≤ limit }
+    ensures stop { IfOk result (λ finished. IsStopOf (run (rules scene.machine) lines.items (start (rules scene.machine) scene.setup)) finished.stop) }
+    ensures verdict { IfOk result (λ finished. stopped_verdict finished.text.items finished.stop ≡ trace_verdict (trace_of scene.machine scene.setup lines.items)) }
+{
+    let Scene { machine, setup } = scene;
+    match machine {
+        MachineKind::Space => trace_run::<Space>(alloc, machine, setup, lines),
+        MachineKind::Guard => trace_run::<Guard>(alloc, machine, setup, lines),
+    }
+}
+
+/// Traces the run in a world of this machine.
+fn trace_run<M: Machine>(
+    alloc: Global,
+    machine: MachineKind,
+    setup: Setup,
+    lines: Vec<Line>,
+) -> Result<Finished, Want>
     requires start { IsStart setup }
     requires said { All IsSaid lines.items }
     requires few { length lines.items ≤ limit }
-    ensures stop { IfOk result (λ finished. IsStopOf (run space_rules lines.items (start space_rules setup)) finished.stop) }
-    ensures verdict { IfOk result (λ finished. stopped_verdict finished.text.items finished.stop ≡ trace_verdict (trace_of setup lines.items)) }
+    ensures stop { IfOk result (λ finished. IsStopOf (run M.rules lines.items (start M.rules setup)) finished.stop) }
+    ensures verdict { IfOk result (λ finished. stopped_verdict finished.text.items finished.stop ≡ trace_verdict (trace M.rules lines.items (start M.rules setup) (nothing machine))) }
 {
-    let world = World::<Space>::start(alloc, setup)?;
-    let mut trace = Trace::new(alloc);
+    let world = World::<M>::start(alloc, setup)?;
+    let mut trace = Trace::new(alloc, machine);
     match trace_lines(alloc, world, lines, &mut trace) {
         Ok(_) => Ok(Finished {
             text: trace.text,

@@ -1,19 +1,17 @@
-use Rattle.std.proofs.Common.{◌≡◌, Ok, Err, refl, ap, ◌∙◌, inl}
+use Rattle.std.proofs.Common.{◌≡◌, Ok, Err, refl, inl, inr}
 use Rattle.zy_top_hosting.specs.Files.{asker_start, node_start}
 use Rattle.zy_top_hosting.specs.Hosted.{Surroundings}
-use Rattle.zy_tuple.specs.Reading.{op_read}
-use Rattle.zy_top_words.proofs.Stops.{IsWritten-stopped}
-use Rattle.zy_top_words.specs.Words.{Command, asked, command_of, op_alone, texts}
+use Rattle.zy_top_words.specs.Words.{Command, command_of, texts}
 use Rattle.zy_top_words.specs.declared.exit.Exit.TheVariants as exits
 use Rattle.zy_edge.specs.Files.{content_of}
 use Rattle.zy_top.specs.Keys.{key_file}
-use Rattle.zy_top.specs.Verdict.{calm_verdict, make_verdict, replay_verdict, verdict}
+use Rattle.zy_top.specs.Verdict.{calm_verdict, make_verdict, replay_verdict}
 use Rattle.zy_top_words.proofs.Endings.{cut_short, told_finishes}
 use Rattle.zy_top.proofs.CalmReplays.{replay_served}
 use Rattle.zy_top.proofs.Headline.{of_commands}
 use Rattle.zy_top.specs.Replaying.{IsBackedRun, IsBlamelessRun, IsSafeRun}
-use Rattle.zy_top.proofs.HostLaws.{asked_in_vain, nothing_due, turns_end, unbound}
-use Rattle.zy_top.proofs.KeptLaws.{asked_goes_on, asked_leaves, left_counted, own_journal, running_journal, serve_ends}
+use Rattle.zy_top.proofs.HostLaws.{nothing_due, turns_end}
+use Rattle.zy_top.proofs.KeptLaws.{left_counted, own_journal, running_journal, serve_ends}
 use Rattle.zy_top_hosting.specs.Identity.{identity_of}
 use Rattle.zy_top.proofs.MadeRuns.{made_finishes, own_answer}
 use Rattle.zy_top.proofs.ReplayLaws.{sent_runs}
@@ -144,37 +142,6 @@ returns-in-Ok-Node-clause-ends g c still calm quiet =
     (turns_end (g.F.Files.held c.args.files.now) (λ held. node_start c.in-Ok-Node.id (content_of held c.in-Ok-Node.group.now) (content_of held c.in-Ok-Node.secret.now)) c.run_node.result
     _ _ _ _ _ _ ran.started ran.read_faults ran.write_faults ran.link_faults still calm quiet)
 
-pub returns-in-Ok-op_read_alone-clause-complete : goal.returns-in-Ok-op_read_alone-clause-complete
-returns-in-Ok-op_read_alone-clause-complete g c =
-    let words : command_of (texts c.args.words.now) ≡ asked c.in-Ok-Ask.group.now c.in-Ok-Ask.secret.now c.in-Ok-Ask.id c.in-Ok-Ask.turns (op_alone (op_read c.in-Ok-Ask.op.now) (texts c.in-Ok-Ask.others.now)) = rw c.in-Ok-Ask.field-0-is at c.in-Ok-Ask.ensures in
-    let read : command_of (texts c.args.words.now) ≡ Ok (Command.Ask c.in-Ok-Ask.group.now c.in-Ok-Ask.secret.now c.in-Ok-Ask.id c.in-Ok-Ask.turns c.in-Ok-op_read_alone.op) = words ∙ ap (asked c.in-Ok-Ask.group.now c.in-Ok-Ask.secret.now c.in-Ok-Ask.id c.in-Ok-Ask.turns) c.in-Ok-op_read_alone.ensures.0 in
-    rw read
-    (nothing_due (g.F.Files.held c.args.files.now) (λ held. asker_start c.in-Ok-Ask.id (content_of held c.in-Ok-Ask.group.now) (content_of held c.in-Ok-Ask.secret.now)) c.run_ask.result
-    (g.F.Files.faults c.args.files.now) (g.F.Files.faults c.run_ask.new.files) (g.S.Sink.faults c.args.out.now) (g.S.Sink.faults c.run_ask.new.out))
-
-pub returns-in-Ok-op_read_alone-clause-ends : goal.returns-in-Ok-op_read_alone-clause-ends
-returns-in-Ok-op_read_alone-clause-ends g c still calm quiet =
-    let words : command_of (texts c.args.words.now) ≡ asked c.in-Ok-Ask.group.now c.in-Ok-Ask.secret.now c.in-Ok-Ask.id c.in-Ok-Ask.turns (op_alone (op_read c.in-Ok-Ask.op.now) (texts c.in-Ok-Ask.others.now)) = rw c.in-Ok-Ask.field-0-is at c.in-Ok-Ask.ensures in
-    let read : command_of (texts c.args.words.now) ≡ Ok (Command.Ask c.in-Ok-Ask.group.now c.in-Ok-Ask.secret.now c.in-Ok-Ask.id c.in-Ok-Ask.turns c.in-Ok-op_read_alone.op) = words ∙ ap (asked c.in-Ok-Ask.group.now c.in-Ok-Ask.secret.now c.in-Ok-Ask.id c.in-Ok-Ask.turns) c.in-Ok-op_read_alone.ensures.0 in
-    let ran = c.run_ask.ensures in
-    rw read
-    (turns_end (g.F.Files.held c.args.files.now) (λ held. asker_start c.in-Ok-Ask.id (content_of held c.in-Ok-Ask.group.now) (content_of held c.in-Ok-Ask.secret.now)) c.run_ask.result
-    _ _ _ _ _ _ ran.started ran.read_faults ran.write_faults ran.link_faults still calm quiet)
-
-pub returns-in-Err-Want-clause-written : goal.returns-in-Err-Want-clause-written
-returns-in-Err-Want-clause-written g c =
-    IsWritten-stopped (g.F.Files.held c.args.files.now) (verdict (texts c.args.words.now)) exits.Want (g.S.Sink.taken c.args.out.now) refl
-
-pub returns-in-Err-Want-clause-hosted : goal.returns-in-Err-Want-clause-hosted
-returns-in-Err-Want-clause-hosted g c =
-    let words : command_of (texts c.args.words.now) ≡ asked c.in-Ok-Ask.group.now c.in-Ok-Ask.secret.now c.in-Ok-Ask.id c.in-Ok-Ask.turns (op_alone (op_read c.in-Ok-Ask.op.now) (texts c.in-Ok-Ask.others.now)) = rw c.in-Ok-Ask.field-0-is at c.in-Ok-Ask.ensures in
-    rw words (asked_in_vain (g.F.Files.held c.args.files.now) c.in-Ok-Ask.group.now c.in-Ok-Ask.secret.now c.in-Ok-Ask.id c.in-Ok-Ask.turns (op_alone (op_read c.in-Ok-Ask.op.now) (texts c.in-Ok-Ask.others.now)) _ (g.S.Sink.taken c.args.out.now))
-
-pub returns-in-Err-Want-clause-bound : goal.returns-in-Err-Want-clause-bound
-returns-in-Err-Want-clause-bound g c =
-    let words : command_of (texts c.args.words.now) ≡ asked c.in-Ok-Ask.group.now c.in-Ok-Ask.secret.now c.in-Ok-Ask.id c.in-Ok-Ask.turns (op_alone (op_read c.in-Ok-Ask.op.now) (texts c.in-Ok-Ask.others.now)) = rw c.in-Ok-Ask.field-0-is at c.in-Ok-Ask.ensures in
-    rw words (unbound c.in-Ok-Ask.group.now c.in-Ok-Ask.secret.now c.in-Ok-Ask.id c.in-Ok-Ask.turns (op_alone (op_read c.in-Ok-Ask.op.now) (texts c.in-Ok-Ask.others.now)) (record { receives = g.L.Link.receives c.args.link.now; mail = g.L.Link.mail c.args.link.now }) (g.L.Link.binding c.args.link.now))
-
 pub returns-in-Ok-run_replay-clause-truthful : goal.returns-in-Ok-run_replay-clause-truthful
 returns-in-Ok-run_replay-clause-truthful g c =
     let read : command_of (texts c.args.words.now) ≡ Ok (Command.Replay c.in-Ok-Replay.group.now c.in-Ok-Replay.schedule.now) = rw c.in-Ok-Replay.field-0-is at c.in-Ok-Replay.ensures in
@@ -289,9 +256,18 @@ returns-in-Err-run_space-clause-kept g c =
     let read : command_of (texts c.args.words.now) ≡ Ok (Command.Space c.in-Ok-Space.script.now) = rw c.in-Ok-Space.field-0-is at c.in-Ok-Space.ensures in
     rw read (refl, own_journal c.in-Err-run_space.exit c.in-Err-run_space.ensures.judged)
 
+pub returns-in-Err-run_guard-clause-kept : goal.returns-in-Err-run_guard-clause-kept
+returns-in-Err-run_guard-clause-kept g c =
+    let read : command_of (texts c.args.words.now) ≡ Ok (Command.Guard c.in-Ok-Guard.script.now) = rw c.in-Ok-Guard.field-0-is at c.in-Ok-Guard.ensures in
+    rw read (refl, own_journal c.in-Err-run_guard.exit c.in-Err-run_guard.ensures.judged)
+
 pub returns-in-Err-run_space-clause-disk_faults : goal.returns-in-Err-run_space-clause-disk_faults
 returns-in-Err-run_space-clause-disk_faults g c =
     left_counted c.in-Err-run_space.exit (g.D.Disk.faults c.args.disk.now) (own_journal c.in-Err-run_space.exit c.in-Err-run_space.ensures.judged)
+
+pub returns-in-Err-run_guard-clause-disk_faults : goal.returns-in-Err-run_guard-clause-disk_faults
+returns-in-Err-run_guard-clause-disk_faults g c =
+    left_counted c.in-Err-run_guard.exit (g.D.Disk.faults c.args.disk.now) (own_journal c.in-Err-run_guard.exit c.in-Err-run_guard.ensures.judged)
 
 pub returns-in-Err-run_replay-clause-kept : goal.returns-in-Err-run_replay-clause-kept
 returns-in-Err-run_replay-clause-kept g c =
@@ -329,40 +305,6 @@ pub returns-in-Ok-Node-clause-disk_faults : goal.returns-in-Ok-Node-clause-disk_
 returns-in-Ok-Node-clause-disk_faults g c =
     left_counted c.run_node.result (g.D.Disk.faults c.args.disk.now) c.run_node.ensures.no_journal
 
-pub returns-in-Ok-op_read_alone-clause-kept : goal.returns-in-Ok-op_read_alone-clause-kept
-returns-in-Ok-op_read_alone-clause-kept g c =
-    let words : command_of (texts c.args.words.now) ≡ asked c.in-Ok-Ask.group.now c.in-Ok-Ask.secret.now c.in-Ok-Ask.id c.in-Ok-Ask.turns (op_alone (op_read c.in-Ok-Ask.op.now) (texts c.in-Ok-Ask.others.now)) = rw c.in-Ok-Ask.field-0-is at c.in-Ok-Ask.ensures in
-    let read : command_of (texts c.args.words.now) ≡ Ok (Command.Ask c.in-Ok-Ask.group.now c.in-Ok-Ask.secret.now c.in-Ok-Ask.id c.in-Ok-Ask.turns c.in-Ok-op_read_alone.op) = words ∙ ap (asked c.in-Ok-Ask.group.now c.in-Ok-Ask.secret.now c.in-Ok-Ask.id c.in-Ok-Ask.turns) c.in-Ok-op_read_alone.ensures.0 in
-    rw read (refl, c.run_ask.ensures.no_journal)
-
-pub returns-in-Ok-op_read_alone-clause-goes_on : goal.returns-in-Ok-op_read_alone-clause-goes_on
-returns-in-Ok-op_read_alone-clause-goes_on g c still calm quiet sound =
-    let words : command_of (texts c.args.words.now) ≡ asked c.in-Ok-Ask.group.now c.in-Ok-Ask.secret.now c.in-Ok-Ask.id c.in-Ok-Ask.turns (op_alone (op_read c.in-Ok-Ask.op.now) (texts c.in-Ok-Ask.others.now)) = rw c.in-Ok-Ask.field-0-is at c.in-Ok-Ask.ensures in
-    let read : command_of (texts c.args.words.now) ≡ Ok (Command.Ask c.in-Ok-Ask.group.now c.in-Ok-Ask.secret.now c.in-Ok-Ask.id c.in-Ok-Ask.turns c.in-Ok-op_read_alone.op) = words ∙ ap (asked c.in-Ok-Ask.group.now c.in-Ok-Ask.secret.now c.in-Ok-Ask.id c.in-Ok-Ask.turns) c.in-Ok-op_read_alone.ensures.0 in
-    rw read tt
-
-pub returns-in-Ok-op_read_alone-clause-disk_faults : goal.returns-in-Ok-op_read_alone-clause-disk_faults
-returns-in-Ok-op_read_alone-clause-disk_faults g c =
-    left_counted c.run_ask.result (g.D.Disk.faults c.args.disk.now) c.run_ask.ensures.no_journal
-
-pub returns-in-Err-Want-clause-kept : goal.returns-in-Err-Want-clause-kept
-returns-in-Err-Want-clause-kept g c =
-    let words : command_of (texts c.args.words.now) ≡ asked c.in-Ok-Ask.group.now c.in-Ok-Ask.secret.now c.in-Ok-Ask.id c.in-Ok-Ask.turns (op_alone (op_read c.in-Ok-Ask.op.now) (texts c.in-Ok-Ask.others.now)) = rw c.in-Ok-Ask.field-0-is at c.in-Ok-Ask.ensures in
-    let outside : Surroundings = record {
-      outside = record { mail = g.L.Link.mail c.args.link.now; receives = g.L.Link.receives c.args.link.now; moments = g.C.Clock.moments c.args.clock.now };
-      binding = g.L.Link.binding c.args.link.now;
-    } in
-    rw words
-    (asked_leaves g.D.Disk.contents g.D.Disk.may_leave g.D.Disk.moment g.D.Disk.left_since (g.F.Files.held c.args.files.now) c.in-Ok-Ask.group.now c.in-Ok-Ask.secret.now c.in-Ok-Ask.id c.in-Ok-Ask.turns (op_alone (op_read c.in-Ok-Ask.op.now) (texts c.in-Ok-Ask.others.now))
-    exits.Want outside outside (g.S.Sink.taken c.args.out.now) (g.S.Sink.taken c.args.out.now) c.args.disk.now (λ is. cc))
-
-pub returns-in-Err-Want-clause-goes_on : goal.returns-in-Err-Want-clause-goes_on
-returns-in-Err-Want-clause-goes_on g c still calm quiet sound =
-    let words : command_of (texts c.args.words.now) ≡ asked c.in-Ok-Ask.group.now c.in-Ok-Ask.secret.now c.in-Ok-Ask.id c.in-Ok-Ask.turns (op_alone (op_read c.in-Ok-Ask.op.now) (texts c.in-Ok-Ask.others.now)) = rw c.in-Ok-Ask.field-0-is at c.in-Ok-Ask.ensures in
-    rw words (asked_goes_on (g.F.Files.held c.args.files.now) (g.D.Disk.contents c.args.disk.now) c.in-Ok-Ask.group.now c.in-Ok-Ask.secret.now c.in-Ok-Ask.id c.in-Ok-Ask.turns (op_alone (op_read c.in-Ok-Ask.op.now) (texts c.in-Ok-Ask.others.now)) exits.Want)
-
--- ---- a replica with a journal
-
 pub returns-in-Ok-Serve-clause-complete : goal.returns-in-Ok-Serve-clause-complete
 returns-in-Ok-Serve-clause-complete g c =
     let asked = c.in-Ok-Serve in
@@ -380,3 +322,32 @@ returns-in-Ok-Serve-clause-goes_on g c still calm quiet sound =
     (serve_ends (g.F.Files.held c.args.files.now) (λ held. node_start asked.id (content_of held asked.group.now) (content_of held asked.secret.now))
     (λ held. identity_of asked.id (content_of held asked.group.now) (content_of held asked.secret.now)) (g.D.Disk.contents c.args.disk.now) c.run_serve.result
     _ _ _ _ _ _ _ _ ran.started ran.read_faults ran.write_faults ran.link_faults ran.disk_faults still calm quiet sound)
+
+pub returns-in-Ok-Ask-clause-complete : goal.returns-in-Ok-Ask-clause-complete
+returns-in-Ok-Ask-clause-complete g c =
+    let read : command_of (texts c.args.words.now) ≡ Ok (Command.Ask c.in-Ok-Ask.group.now c.in-Ok-Ask.secret.now c.in-Ok-Ask.id c.in-Ok-Ask.turns c.in-Ok-Ask.op.now) = rw c.in-Ok-Ask.field-0-is at c.in-Ok-Ask.ensures in
+    rw read
+    (nothing_due (g.F.Files.held c.args.files.now) (λ held. asker_start c.in-Ok-Ask.id c.in-Ok-Ask.op.now (content_of held c.in-Ok-Ask.group.now) (content_of held c.in-Ok-Ask.secret.now)) c.run_ask.result
+    (g.F.Files.faults c.args.files.now) (g.F.Files.faults c.run_ask.new.files) (g.S.Sink.faults c.args.out.now) (g.S.Sink.faults c.run_ask.new.out))
+
+pub returns-in-Ok-Ask-clause-ends : goal.returns-in-Ok-Ask-clause-ends
+returns-in-Ok-Ask-clause-ends g c still calm quiet =
+    let read : command_of (texts c.args.words.now) ≡ Ok (Command.Ask c.in-Ok-Ask.group.now c.in-Ok-Ask.secret.now c.in-Ok-Ask.id c.in-Ok-Ask.turns c.in-Ok-Ask.op.now) = rw c.in-Ok-Ask.field-0-is at c.in-Ok-Ask.ensures in
+    let ran = c.run_ask.ensures in
+    rw read
+    (turns_end (g.F.Files.held c.args.files.now) (λ held. asker_start c.in-Ok-Ask.id c.in-Ok-Ask.op.now (content_of held c.in-Ok-Ask.group.now) (content_of held c.in-Ok-Ask.secret.now)) c.run_ask.result
+    _ _ _ _ _ _ ran.started ran.read_faults ran.write_faults ran.link_faults still calm quiet)
+
+pub returns-in-Ok-Ask-clause-kept : goal.returns-in-Ok-Ask-clause-kept
+returns-in-Ok-Ask-clause-kept g c =
+    let read : command_of (texts c.args.words.now) ≡ Ok (Command.Ask c.in-Ok-Ask.group.now c.in-Ok-Ask.secret.now c.in-Ok-Ask.id c.in-Ok-Ask.turns c.in-Ok-Ask.op.now) = rw c.in-Ok-Ask.field-0-is at c.in-Ok-Ask.ensures in
+    rw read (refl, c.run_ask.ensures.no_journal)
+
+pub returns-in-Ok-Ask-clause-disk_faults : goal.returns-in-Ok-Ask-clause-disk_faults
+returns-in-Ok-Ask-clause-disk_faults g c =
+    left_counted c.run_ask.result (g.D.Disk.faults c.args.disk.now) c.run_ask.ensures.no_journal
+
+pub returns-in-Ok-Ask-clause-only_usage : goal.returns-in-Ok-Ask-clause-only_usage
+returns-in-Ok-Ask-clause-only_usage g c word is =
+    let read : command_of (texts c.args.words.now) ≡ Ok (Command.Ask c.in-Ok-Ask.group.now c.in-Ok-Ask.secret.now c.in-Ok-Ask.id c.in-Ok-Ask.turns c.in-Ok-Ask.op.now) = rw c.in-Ok-Ask.field-0-is at c.in-Ok-Ask.ensures in
+    inr (rw read (rw is at c.run_ask.ensures.no_operation))

@@ -14,5 +14,5 @@ returns-in_err-deliver-clause-traced g c whole shows =
 pub returns-clause-traced : goal.returns-clause-traced
 returns-clause-traced g c whole shows =
     let told : told_of c.deliver.new.self ≡ headed whole (lines.Deliver c.args.frame None) (told_of c.args.trace.now) =
-    told_same _ _ _ _ _ _ (c.in_ok-deliver.ensures.text whole shows) c.deliver.ensures.events c.deliver.ensures.senders in
+    told_same _ _ _ _ _ _ _ _ c.deliver.ensures.machine (c.in_ok-deliver.ensures.text whole shows) c.deliver.ensures.events c.deliver.ensures.senders in
     rw told at (c.trace_event.ensures.traced whole shows)

@@ -16,7 +16,7 @@ returns-in_ok-follow-in-Ok-clause-traced g c whole shows =
     let unspent = c.key_next-unspent.ensures whole shows in
     let answer : c.in-Ok.field-0.answer ≡ answer_in R whole event = c.in-Ok.ensures.answer ∙ answer_is R whole c.args.world event shows in
     let told : told_of c.follow.new.self ≡ followed R goes.0 (actor whole event) (key_next whole (actor whole event)) c.in-Ok.field-0.note (answer_in R whole event) (told_of c.args.trace.now) =
-    told_same _ _ _ _ _ _ (rw (unspent, by, answer) at (c.in_ok-follow-in-Ok.ensures.text goes.0 goes.2)) c.in_ok-follow-in-Ok.ensures.events (rw by at (c.in_ok-follow-in-Ok.ensures.senders goes.0 goes.2)) in
+    told_same _ _ _ _ _ _ _ _ c.follow.ensures.machine (rw (unspent, by, answer) at (c.in_ok-follow-in-Ok.ensures.text goes.0 goes.2)) c.in_ok-follow-in-Ok.ensures.events (rw by at (c.in_ok-follow-in-Ok.ensures.senders goes.0 goes.2)) in
     event_goes R event whole goes.0 c.in-Ok.field-0.note (told_of c.args.trace.now) (told_of c.follow.new.self) c.in-Ok.field-0.world goes.1 told goes.2
 
 pub returns-in_err-follow-in-Ok-clause-traced : goal.returns-in_err-follow-in-Ok-clause-traced
@@ -28,7 +28,7 @@ pub returns-in_ok-cut-in-Err-Forged-clause-traced : goal.returns-in_ok-cut-in-Er
 returns-in_ok-cut-in-Err-Forged-clause-traced g c whole shows =
     let by = c.in-Err-Forged.field-0-0 in
     let told : told_of c.cut.new.self ≡ cut broken.Forged (told_of c.args.trace.now) =
-    told_same _ _ _ _ _ _ c.in_ok-cut-in-Err-Forged.ensures.text c.cut.ensures.events c.cut.ensures.senders in
+    told_same _ _ _ _ _ _ _ _ c.cut.ensures.machine c.in_ok-cut-in-Err-Forged.ensures.text c.cut.ensures.events c.cut.ensures.senders in
     event_breaks g.M.Machine.rules c.args.event whole (events.Broken.Forged by) broken.Forged (told_of c.args.trace.now) (told_of c.cut.new.self)
     (c.step.ensures.forged whole by shows (c.in-Err-Forged.is ∙ ap Err c.in-Err-Forged.field-0-is)) refl told
 
@@ -41,7 +41,7 @@ pub returns-in_ok-cut-in-Err-Clash-clause-traced : goal.returns-in_ok-cut-in-Err
 returns-in_ok-cut-in-Err-Clash-clause-traced g c whole shows =
     let digest = c.in-Err-Clash.field-0-0 in
     let told : told_of c.cut-in-Err-Clash.new.self ≡ cut broken.Clash (told_of c.args.trace.now) =
-    told_same _ _ _ _ _ _ c.in_ok-cut-in-Err-Clash.ensures.text c.cut-in-Err-Clash.ensures.events c.cut-in-Err-Clash.ensures.senders in
+    told_same _ _ _ _ _ _ _ _ c.cut-in-Err-Clash.ensures.machine c.in_ok-cut-in-Err-Clash.ensures.text c.cut-in-Err-Clash.ensures.events c.cut-in-Err-Clash.ensures.senders in
     event_breaks g.M.Machine.rules c.args.event whole (events.Broken.Clash digest) broken.Clash (told_of c.args.trace.now) (told_of c.cut-in-Err-Clash.new.self)
     (c.step.ensures.clash whole digest shows (c.in-Err-Clash.is ∙ ap Err c.in-Err-Clash.field-0-is)) refl told
 

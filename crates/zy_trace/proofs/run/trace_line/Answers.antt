@@ -18,5 +18,5 @@ returns-in_err-act-clause-traced g c whole shows =
 pub returns-clause-traced : goal.returns-clause-traced
 returns-clause-traced g c whole shows =
     let told : told_of c.head.new.self ≡ headed whole c.args.line (told_of c.args.trace.now) =
-    told_same _ _ _ _ _ _ (c.in_ok-head.ensures.text whole shows) c.head.ensures.events c.head.ensures.senders in
+    told_same _ _ _ _ _ _ _ _ c.head.ensures.machine (c.in_ok-head.ensures.text whole shows) c.head.ensures.events c.head.ensures.senders in
     rw (c.in_ok-act.ensures.act, told) at (c.trace_act.ensures.traced whole shows)
