@@ -10,7 +10,6 @@ use zy_base::{Bytes, ClientId, Party, ReplicaId, Want};
 use zy_edge::{Address, Binding};
 use zy_top_hosting::{run_ask, run_node, run_serve};
 use zy_top_words::Exit;
-use zy_tuple::op_text_read;
 
 pub(crate) fn node_exit(alloc: Global, id: ReplicaId, turns: u32, outside: &mut Outside) -> Exit {
     run_node(
@@ -43,21 +42,18 @@ pub(crate) fn serve_exit(alloc: Global, id: ReplicaId, turns: u32, outside: &mut
 }
 
 pub(crate) fn ask_exit(alloc: Global, id: ClientId, turns: u32, outside: &mut Outside) -> Exit {
-    match op_text_read(alloc, b"out (1)") {
-        Ok(op) => run_ask(
-            alloc,
-            "group",
-            "secret",
-            id,
-            turns,
-            &op,
-            &mut outside.files,
-            &mut outside.out,
-            &mut outside.link,
-            &mut outside.clock,
-        ),
-        Err(_) => Exit::Want,
-    }
+    run_ask(
+        alloc,
+        "group",
+        "secret",
+        id,
+        turns,
+        "out (1)",
+        &mut outside.files,
+        &mut outside.out,
+        &mut outside.link,
+        &mut outside.clock,
+    )
 }
 
 /// How a node or an ask ends.

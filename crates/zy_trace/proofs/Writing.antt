@@ -1,4 +1,7 @@
 -- What is written is the trace.
+use Rattle.zy_group.specs.declared.replay.ReplayGroup.{ReplayGroup}
+use Rattle.zy_group.specs.declared.machine.MachineKind.{MachineKind}
+use Rattle.zy_top.specs.declared.group.Scene.{Scene}
 use Rattle.std.proofs.Common.{◌≡◌, ℕ, ◌+◌, List, length, Option, None, Some, IfSome, Ok, Err, sym, ap, ◌∙◌, subst}
 use Rattle.std.specs.Io.KnownBytes.{Appends}
 use Rattle.std.specs.Prelude.{IsTrue}
@@ -7,7 +10,7 @@ use Rattle.zy_schedule.specs.Reading.{schedule_of}
 use Rattle.zy_schedule.specs.declared.line.Line.{Line}
 use Rattle.zy_top.proofs.ReplayLaws.{sent_writes, stopped_writes}
 use Rattle.zy_top.specs.Group.{group_of, setup_of}
-use Rattle.zy_top.specs.Replaying.{IsSetupOf, OfReplay}
+use Rattle.zy_top.specs.Replaying.{IsSceneOf, OfReplay}
 use Rattle.zy_top.specs.Verdict.{what_broke}
 use Rattle.zy_top_words.proofs.Stops.{IsWritten-none}
 use Rattle.zy_top_words.specs.Calls.{IsSent, is_reading}
@@ -51,15 +54,17 @@ module _ {S : Type 0} (r : Run S) where
 -- ---- the run that files tell of
 
 -- what holds of what was read
-pub of_read : (Writes : Setup → List Line → Type 0) (group schedule : List ℕ) (setup : Setup) (lines : List Line) → IsSetupOf (group_of group) setup → schedule_of schedule ≡ Ok lines
-    → Writes setup lines → OfReplay Writes group schedule
-of_read Writes group schedule setup lines told read writes = λ other others told_so read_so.
+pub of_read : (Writes : MachineKind → Setup → List Line → Type 0) (group schedule : List ℕ) (scene : Scene) (lines : List Line) → IsSceneOf (group_of group) scene → schedule_of schedule ≡ Ok lines
+    → Writes scene.machine scene.setup lines → OfReplay Writes group schedule
+of_read Writes group schedule scene lines told read writes = λ other others told_so read_so.
     let same_group : told.0 ≡ other = cc (told.1, told_so) in
     let same_lines : lines ≡ others = cc (read, read_so) in
-    subst (λ (ls : List Line). Writes (setup_of other) ls) same_lines (subst (λ (s : Setup). Writes s lines) (told.2 ∙ ap setup_of same_group) writes)
+    subst (λ (ls : List Line). Writes other.machine (setup_of other) ls) same_lines
+    (subst (λ (s : Setup). Writes other.machine s lines) (told.3 ∙ ap setup_of same_group)
+    (subst (λ (k : MachineKind). Writes k scene.setup lines) (told.2 ∙ ap (λ (g : ReplayGroup). g.machine) same_group) writes))
 
 -- nothing was written, as what was read stops the call
 pub unread_writes : (told : Option Held) (group schedule : List ℕ) (exit : Exit) (taken : Option (List ℕ)) → IsTrue (is_reading exit)
-    → IfSome told (λ held. OfReplay (λ setup lines. IsWritten (trace_verdict (trace_of setup lines)) exit taken taken) (content_of held group) (content_of held schedule))
+    → IfSome told (λ held. OfReplay (λ kind setup lines. IsWritten (trace_verdict (trace_of kind setup lines)) exit taken taken) (content_of held group) (content_of held schedule))
 unread_writes None group schedule exit taken is = tt
-unread_writes (Some held) group schedule exit taken is = λ other others told_so read_so. IsWritten-none (trace_verdict (trace_of (setup_of other) others)) exit taken is
+unread_writes (Some held) group schedule exit taken is = λ other others told_so read_so. IsWritten-none (trace_verdict (trace_of other.machine (setup_of other) others)) exit taken is

@@ -8,9 +8,7 @@ ghost use Rattle.zy_tuple.specs.Values.{IsOp};
 use crate::parts::{put_act, put_hex, put_maybe, put_name, put_number};
 use crate::statement::{Saying, Statement, saying_name};
 use std::alloc::Global;
-use zy_base::{
-    Answer, ClientId, Machine, Mode, Party, Place, Stamp, Stood, TimerKind, Timers, Want,
-};
+use zy_base::{Answer, Bytes, ClientId, Machine, Mode, Party, Place, Stamp, Stood, TimerKind, Timers, Want};
 use zy_client::Client;
 use zy_top_words::Broken;
 use zy_tuple::{Op, op_text};
@@ -58,10 +56,8 @@ pub(crate) fn put_ask_hex(
 ) -> Result<(), Want>
     ensures { OnOk result (out.new.items ≡ out.old.items ++ spelled.ask_hex_line number client op.now) }
 {
-    let digits = hex::encode(alloc, op.as_slice())?;
     put_act(alloc, out, number, b" ask ", Some(Party::Client(client)))?;
-    out.extend_from_slice(b" hex ")?;
-    out.extend_from_slice(digits.as_bytes())?;
+    put_hex(alloc, out, b" hex ", op.as_slice())?;
     out.push(b'\n')?;
     Ok(())
 }
