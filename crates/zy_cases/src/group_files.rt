@@ -207,10 +207,7 @@ fn members_text(alloc: Global, group: &AskGroup, row: &Row) -> io::Result<String
     let counts = group.counts;
     let mut text = format!(in alloc;
         "n {} f {} machine {:?} port {}",
-        counts.n,
-        counts.f,
-        group.machine,
-        group.port
+        counts.n, counts.f, group.machine, group.port
     )?;
     if row.has("parties") {
         put_keys(&mut text, &group.keys, row.text("parties")?)?;
