@@ -8,6 +8,9 @@ use Rattle.zy_slots.specs.declared.changes.Change.{Change}
 use Rattle.zy_slots.specs.declared.changes.Change.TheVariants.{Same, Put, Took}
 use Rattle.zy_slots.proofs.ListLemmas.{all_split, all_parts, all_join}
 
+turned : (oldest : Change) (changes : List Change) → reverse (oldest ∷ changes) ≡ reverse changes ++ oldest ∷ []
+turned oldest changes = reverse-append (oldest ∷ []) changes
+
 module _ {T : Type 0} where
   -- what contracts see of cells and changes
   abbrev pub line : Cells T → List Change → Timeline T
@@ -79,9 +82,6 @@ module _ {T : Type 0} where
 
   drop-reverse : (states : List (List T)) (state : List T) → drop 1 (reverse (states ++ state ∷ [])) ≡ reverse states
   drop-reverse states state = rw (reverse-append states (state ∷ [])) refl
-
-  turned : (oldest : Change) (changes : List Change) → reverse (oldest ∷ changes) ≡ reverse changes ++ oldest ∷ []
-  turned oldest changes = reverse-append (oldest ∷ []) changes
 
   dropped : (cells : Cells T) (changes : List Change) (oldest : Change) → drop 1 (trail_of cells (oldest ∷ changes)) ≡ trail_of cells changes
   dropped cells changes oldest =
