@@ -6,21 +6,21 @@ use Rattle.zy_slots.specs.declared.changes.Change.{Change}
 use Rattle.zy_slots.proofs.ChangeLemmas.{no_trail}
 use Rattle.zy_slots.proofs.undoable.Undoable.forget_oldest.Goals as goal
 
-pub forget_change-self-inside-requires : goal.forget_change-self-inside-requires
-forget_change-self-inside-requires g c =
+pub forget_change-requires : goal.forget_change-requires
+forget_change-requires g c =
     subst (IsSound g.T.Valued.fits g.T.Valued.bucket_of c.self.inside.slots) c.in-Some.ensures.items c.self.invariant.sound
 
 pub invariant_of-self : goal.invariant_of-self
 invariant_of-self g c =
-    let past = c.forget_change-self-inside.ensures in
+    let past = c.forget_change.ensures in
     record { sound = past.sound; counted = c.self.invariant.counted ∙ ap length (sym past.live) }
 
 pub returns-in-Some-clause-live : goal.returns-in-Some-clause-live
-returns-in-Some-clause-live g c = c.forget_change-self-inside.ensures.live ∙ ap (λ (t : Timeline _). t.cells.live) c.self.view_is
+returns-in-Some-clause-live g c = c.forget_change.ensures.live ∙ ap (λ (t : Timeline _). t.cells.live) c.self.view_is
 
 pub returns-in-Some-clause-trail : goal.returns-in-Some-clause-trail
 returns-in-Some-clause-trail g c =
-    c.forget_change-self-inside.ensures.trail
+    c.forget_change.ensures.trail
     ∙ ap (λ (changes : List Change). drop 1 (trail_of c.self.inside.slots changes)) (sym c.in-Some.ensures.items)
     ∙ ap (λ (t : Timeline _). drop 1 t.trail) c.self.view_is
 

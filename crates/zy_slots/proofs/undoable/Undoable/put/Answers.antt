@@ -6,7 +6,7 @@ use Rattle.zy_slots.proofs.undoable.Undoable.put.Goals as goal
 pub invariant_of-self-in-Ok : goal.invariant_of-self-in-Ok
 invariant_of-self-in-Ok g c =
     let cells = c.self.inside.slots in
-    let cells' = c.put_last-self-inside.new.slots in
+    let cells' = c.put_last.new.slots in
     let changes = c.self.inside.changes.items in
     let fits = g.T.Valued.fits in
     let bucket_of = g.T.Valued.bucket_of in
@@ -19,7 +19,7 @@ invariant_of-self-in-Ok g c =
 pub returns-in-Ok-clause-ok : goal.returns-in-Ok-clause-ok
 returns-in-Ok-clause-ok g c =
     let cells = c.self.inside.slots in
-    let cells' = c.put_last-self-inside.new.slots in
+    let cells' = c.put_last.new.slots in
     let changes = c.self.inside.changes.items in
     let fits = g.T.Valued.fits in
     let bucket_of = g.T.Valued.bucket_of in
