@@ -21,7 +21,7 @@ use Rattle.zy_world_law.specs.Events as events
 use Rattle.zy_world_law.specs.Events.{happens}
 use Rattle.zy_world_law.specs.Runs.{End, Rest, Run, goes_on, run, worlds_of}
 use Rattle.zy_world_law.specs.Safe.{AllGrow, IsSafe}
-use Rattle.zy_world_law.specs.Setup.{Setup}
+use Rattle.zy_world_law.specs.Setup.{IsSetup, Setup}
 use Rattle.zy_world_law.specs.World.{World, start}
 use Rattle.zy_world_law.specs.declared.event.WorldEvent.{WorldEvent}
 use Rattle.zy_world_law.specs.declared.note.Note.{Note}
@@ -165,6 +165,10 @@ OfCommand Holds told (Ok (Command.Ask group secret id turns op)) = ⊤
 OfCommand Holds told (Ok (Command.Serve group secret id turns journal)) = ⊤
 OfCommand Holds told (Err word) = ⊤
 
+-- of every run whose setup the laws allow
+abbrev pub OfEach : (Setup → List Line → Type 0) → Type 0
+OfEach Holds = (setup : Setup) (schedule : List Line) → IsSetup setup → Holds setup schedule
+
 -- ---- the headline
 
 -- every world of the run is safe, and the agreed list before each event is a front of the one after it
@@ -182,15 +186,21 @@ IsSafeCommand told asked = OfCommand IsSafeRun told asked
 -- ---- beside it
 
 -- in every world of the run no correct replica is blamed, whatever event is next
+abbrev pub IsBlamelessRunOf : {S : Type 0} → Rules S → Setup → List Line → Type 0
+IsBlamelessRunOf R setup schedule = AllByRecursion (IsBlameless R) (worlds_of R setup schedule)
+
 abbrev pub IsBlamelessRun : MachineKind → Setup → List Line → Type 0
-IsBlamelessRun kind setup schedule = AllByRecursion (IsBlameless (rules kind)) (worlds_of (rules kind) setup schedule)
+IsBlamelessRun kind setup schedule = IsBlamelessRunOf (rules kind) setup schedule
 
 abbrev pub IsBlamelessCommand : Option Held → Result Command ℕ → Type 0
 IsBlamelessCommand told asked = OfCommand IsBlamelessRun told asked
 
 -- in every world of the run what a correct party keeps is backed: its signers said it, or they lie
+abbrev pub IsBackedRunOf : {S : Type 0} → (S → Type 0) → Rules S → Setup → List Line → Type 0
+IsBackedRunOf IsState R setup schedule = AllByRecursion (IsKeptBacked IsState) (worlds_of R setup schedule)
+
 abbrev pub IsBackedRun : MachineKind → Setup → List Line → Type 0
-IsBackedRun kind setup schedule = AllByRecursion (IsKeptBacked (IsStateOf kind)) (worlds_of (rules kind) setup schedule)
+IsBackedRun kind setup schedule = IsBackedRunOf (IsStateOf kind) (rules kind) setup schedule
 
 abbrev pub IsBackedCommand : Option Held → Result Command ℕ → Type 0
 IsBackedCommand told asked = OfCommand IsBackedRun told asked

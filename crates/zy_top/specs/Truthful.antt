@@ -1,6 +1,7 @@
 -- When a forged signature may be told.
 use Rattle.std.specs.Prelude.{◌≡◌, ℕ, Bool, true, false, List, Option, IfSome, Result, Ok, Err, ⊤}
 use Rattle.std.specs.List.{AllByRecursion}
+use Rattle.zy_base.specs.Machine.{Rules}
 use Rattle.zy_edge.specs.Files.{Held, content_of}
 use Rattle.zy_group.specs.declared.machine.MachineKind.{MachineKind}
 use Rattle.zy_schedule.specs.Reading.{schedule_of}
@@ -16,8 +17,11 @@ use Rattle.zy_world_law.specs.Setup.{Setup}
 use Rattle.zy_world_law.specs.World.{start}
 
 -- where nobody lies by a line of its schedule, a run shows no forged signature
+abbrev pub IsUnforgedRunOf : {S : Type 0} → Rules S → Setup → List Line → Type 0
+IsUnforgedRunOf R setup schedule = AllByRecursion IsQuiet schedule → IsUnforged (run R schedule (start R setup)).end
+
 abbrev pub IsUnforgedRun : MachineKind → Setup → List Line → Type 0
-IsUnforgedRun kind setup schedule = AllByRecursion IsQuiet schedule → IsUnforged (run (rules kind) schedule (start (rules kind) setup)).end
+IsUnforgedRun kind setup schedule = IsUnforgedRunOf (rules kind) setup schedule
 
 abbrev pub tells_forged : Exit → Bool
 tells_forged (exits.Premise event broken.Forged) = true

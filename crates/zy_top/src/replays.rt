@@ -7,17 +7,12 @@ ghost use Rattle.zy_schedule.specs.Texts.{IsSaid};
 ghost use Rattle.zy_world_setup.specs.Starting.{IsStart};
 ghost use Rattle.zy_top_words.specs.Calls.{IsReading, exit_of, stops_reading};
 ghost use Rattle.zy_top.specs.Group.{group_of};
-ghost use Rattle.zy_top.specs.Replaying.{IsBackedRun, IsBlamelessRun, IsGroupJudged, IsRunning, IsSafeRun, IsSafeRunOf, IsSceneOf, IsScheduleJudged, OfReplay};
+ghost use Rattle.zy_top.specs.Replaying.{IsBackedRun, IsBlamelessRun, IsGroupJudged, IsRunning, IsSafeRun, IsSafeRunOf, IsBackedRunOf, IsBlamelessRunOf, IsSceneOf, IsScheduleJudged, OfEach, OfReplay};
 ghost use Rattle.zy_top_words.specs.Ends.{IsAnswer, IsWritten, is_read_fault, is_foreign, is_refusal, is_write_fault, limit};
-ghost use Rattle.zy_top.specs.Truthful.{IsUnforgedRun};
+ghost use Rattle.zy_top.specs.Truthful.{IsUnforgedRun, IsUnforgedRunOf};
 ghost use Rattle.zy_top.specs.Verdict.{replay_verdict, run_verdict};
-ghost use Rattle.std.specs.List.{AllByRecursion};
-ghost use Rattle.zy_schedule.specs.declared.line.Line.{Line};
 ghost use Rattle.zy_top_words.specs.Machines.{rules};
-ghost use Rattle.zy_world_law.specs.Backed.{IsKeptBacked};
-ghost use Rattle.zy_world_law.specs.Blame.{IsBlameless};
-ghost use Rattle.zy_world_law.specs.Runs.{run, worlds_of};
-ghost use Rattle.zy_world_law.specs.Setup.{Setup};
+ghost use Rattle.zy_world_law.specs.Runs.{run};
 ghost use Rattle.zy_world_law.specs.World.{start};
 
 use crate::group::{Scene, read_scene};
@@ -50,10 +45,10 @@ pub(crate) fn replays_are_safe()
 
 /// The runs of one machine are so.
 fn runs_of<M: Machine>()
-    ensures safe { (setup : Setup) (schedule : List Line) → IsSetup setup → IsSafeRunOf M.rules setup schedule }
-    ensures blameless { (setup : Setup) (schedule : List Line) → IsSetup setup → AllByRecursion (IsBlameless M.rules) (worlds_of M.rules setup schedule) }
-    ensures backed { (setup : Setup) (schedule : List Line) → IsSetup setup → AllByRecursion (IsKeptBacked M.IsState) (worlds_of M.rules setup schedule) }
-    ensures unforged { (setup : Setup) (schedule : List Line) → IsSetup setup → AllByRecursion IsQuiet schedule → IsUnforged (run M.rules schedule (start M.rules setup)).end }
+    ensures safe { OfEach (IsSafeRunOf M.rules) }
+    ensures blameless { OfEach (IsBlamelessRunOf M.rules) }
+    ensures backed { OfEach (IsBackedRunOf M.IsState M.rules) }
+    ensures unforged { OfEach (IsUnforgedRunOf M.rules) }
 {
     runs_are_safe::<M>();
     no_correct_replica_is_blamed::<M>();
