@@ -6,7 +6,6 @@ ghost use Rattle.zy_guard.specs.Service.{guard_rules};
 ghost use Rattle.zy_top.specs.GuardScript.{guard_line, guard_report_from};
 ghost use Rattle.zy_top_words.specs.Calls.{IsSent, stops_writing};
 ghost use Rattle.zy_top_words.specs.Machines.{shown};
-ghost use Rattle.zy_tuple.specs.Reading.{Gives};
 
 use std::alloc::Global;
 use zy_base::{Bytes, ClientId, Machine, Want};

@@ -9,7 +9,8 @@ ghost use Rattle.zy_top.specs.Verdict.{replay_verdict, run_verdict};
 ghost use Rattle.zy_top_words.specs.Calls.{exit_of};
 ghost use Rattle.zy_top_words.specs.Ends.{IsAnswer, IsWritten, is_foreign, is_read_fault, is_refusal, is_write_fault, limit};
 ghost use Rattle.zy_top_words.specs.Words.{texts};
-ghost use Rattle.zy_trace.specs.Telling.{nothing, trace, trace_of, trace_verdict};
+ghost use Rattle.zy_trace.specs.Telling.{trace_of, trace_verdict};
+ghost use Rattle.zy_trace.specs.Telling as traces;
 ghost use Rattle.zy_trace.specs.Tracing.{IsStopOf, stopped_verdict};
 ghost use Rattle.zy_trace.specs.Words.{EndsAsReplay, WritesTrace, trace_words};
 ghost use Rattle.zy_world_law.specs.Runs.{run};
@@ -139,7 +140,7 @@ fn trace_run<M: Machine>(
     requires said { All IsSaid lines.items }
     requires few { length lines.items ≤ limit }
     ensures stop { IfOk result (λ finished. IsStopOf (run M.rules lines.items (start M.rules setup)) finished.stop) }
-    ensures verdict { IfOk result (λ finished. stopped_verdict finished.text.items finished.stop ≡ trace_verdict (trace M.rules lines.items (start M.rules setup) (nothing machine))) }
+    ensures verdict { IfOk result (λ finished. stopped_verdict finished.text.items finished.stop ≡ trace_verdict (traces.trace M.rules lines.items (start M.rules setup) (traces.nothing machine))) }
 {
     let world = World::<M>::start(alloc, setup)?;
     let mut trace = Trace::new(alloc, machine);
