@@ -1,5 +1,5 @@
 pub mod TagLemmas
 pub mod BucketLemmas
 pub mod SearchLemmas
-pub pub mod StateLemmas
+pub mod StateLemmas
 pub mod ServiceLaws
